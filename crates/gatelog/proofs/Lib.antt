@@ -1,0 +1,4 @@
+pub mod Codec
+pub mod Restoring
+pub mod Accepting
+pub mod Reading

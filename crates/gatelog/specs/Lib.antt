@@ -1,0 +1,4 @@
+pub mod Entries
+pub mod Restored
+pub mod Logged
+pub mod Commands

@@ -1,0 +1,4 @@
+pub mod Sources
+pub mod Recorders
+pub mod History
+pub mod Kinds
