@@ -2,18 +2,18 @@ ghost use denote.Ref.{now};
 ghost use Rattle.gatelog.specs.Commands.{Understood, Read-position, Read-negative, Read-figures};
 use crate::entries::Entry;
 
-// What a line of input asks of the logger.
+/// What a line of input asks of the logger.
 #[derive(Clone, Copy)]
 pub enum Command {
-    // `gate N POSITION`
+    /// `gate N POSITION`
     Record(Entry),
-    // `flush`
+    /// `flush`
     Flush,
-    // `off`
+    /// `off`
     Off,
 }
 
-// The number that one to five figures write.
+/// The number that one to five figures write.
 fn figures(text: &[u8]) -> Option<u32>
     ensures { λ r. ⌜ Read-figures (now (text .entry)) r ⌝ }
 {
@@ -30,7 +30,7 @@ fn figures(text: &[u8]) -> Option<u32>
     Some(number)
 }
 
-// The number below 0, or 0, that figures behind a minus sign write.
+/// The number below 0, or 0, that figures behind a minus sign write.
 fn negative(text: &[u8]) -> Option<i16>
     ensures { λ r. ⌜ Read-negative (now (text .entry)) r ⌝ }
 {
@@ -40,7 +40,7 @@ fn negative(text: &[u8]) -> Option<i16>
     }
 }
 
-// The position that a text writes.
+/// The position that a text writes.
 fn position(text: &[u8]) -> Option<i16>
     ensures { λ r. ⌜ Read-position (now (text .entry)) r ⌝ }
 {
@@ -54,7 +54,7 @@ fn position(text: &[u8]) -> Option<i16>
 }
 
 impl Command {
-    // The command that a line says.
+    /// The command that a line says.
     pub fn read(line: &[u8]) -> Option<Command>
         ensures { λ r. ⌜ Understood (now (line .entry)) r ⌝ }
     {

@@ -4,14 +4,14 @@ ghost use Rattle.std.specs.declared.option.Option.the-variants.{Some};
 ghost use Rattle.std.specs.Orderings.{Decides};
 ghost use Rattle.gatelog.specs.Entries.{Valid, encoded, decoded, Decodes};
 
-// One gate of a cabinet, 1 to 9, and where it stands.
+/// One gate of a cabinet, 1 to 9, and where it stands.
 #[derive(Clone, Copy, PartialEq, Eq, Debug)]
 pub struct Entry {
     pub gate: u8,
     pub position: i16,
 }
 
-// The check byte of a record.
+/// The check byte of a record.
 fn check(gate: u8, high: u8, low: u8) -> u8
     ensures { λ r. ⌜ r ≡ (gate + high + low) % 256 ⌝ }
 {
@@ -19,14 +19,14 @@ fn check(gate: u8, high: u8, low: u8) -> u8
 }
 
 impl Entry {
-    // Whether a cabinet has such a gate.
+    /// Whether a cabinet has such a gate.
     pub fn is_valid(self) -> bool
         ensures { λ r. ⌜ Decides r (Valid self) ⌝ }
     {
         1 <= self.gate && self.gate <= 9
     }
 
-    // The record of the entry.
+    /// The record of the entry.
     pub fn encode(self) -> [u8; 6]
         ensures bytes { λ r. ⌜ r ≡ encoded self ⌝ }
         ensures undone { λ r. ⌜ (Valid self → decoded r ≡ Some self) ⌝ }
@@ -36,7 +36,7 @@ impl Entry {
         [b'G', self.gate, high, low, sum, b'\n']
     }
 
-    // The entry whose record the bytes are, if there is one.
+    /// The entry whose record the bytes are, if there is one.
     pub fn decode(bytes: &[u8]) -> Option<Entry>
         ensures value { λ r. ⌜ r ≡ decoded (now (bytes .entry)) ⌝ }
         ensures undoes { λ r. ⌜ Decodes (now (bytes .entry)) r ⌝ }

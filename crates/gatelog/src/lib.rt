@@ -1,5 +1,5 @@
-// The gate log: entries of gate positions, recorded as records of six bytes, and restored from what
-// was written.
+//! The gate log: entries of gate positions, recorded as records of six bytes, and restored from what
+//! was written.
 
 pub mod commands;
 pub mod entries;

@@ -25,37 +25,37 @@ use streams::recorders::Recorder;
 use streams::recorders::close;
 use streams::recorders::record_all;
 
-// Why an entry was not logged.
+/// Why an entry was not logged.
 #[derive(Clone, Copy, PartialEq, Eq, Debug)]
 pub enum Refusal {
-    // There are the gates 1 to 9.
+    /// There are the gates 1 to 9.
     NoSuchGate,
-    // The recorder has no space for a whole record.
+    /// The recorder has no space for a whole record.
     NoSpace,
 }
 
-// A log of gate positions on a recorder.
+/// A log of gate positions on a recorder.
 #[derive(Drop)]
 pub struct Logger<R> {
     out: R,
 }
 
 impl<R: ReadRecorder + Drop> Logger<R> {
-    // A log on the recorder.
+    /// A log on the recorder.
     pub fn new(out: R) -> Logger<R>
         ensures { λ r. ⌜ r .out ≡ out ⌝ }
     {
         Logger { out }
     }
 
-    // The recorder that it logs on.
+    /// The recorder that it logs on.
     pub fn recorder(&self) -> &R
         ensures { λ r. ⌜ now r ≡ now (self .entry) .out ⌝ }
     {
         &self.out
     }
 
-    // Logs an entry: the whole record is accepted, or nothing changes.
+    /// Logs an entry: the whole record is accepted, or nothing changes.
     pub fn record(&mut self, entry: Entry) -> Result<(), Refusal>
         ensures { λ r. ⌜ Kept (Logs r entry) (R·Recorder .state (now (self .entry) .out)) (R·Recorder .state (now (self .exit) .out)) ⌝ }
     {
@@ -69,23 +69,23 @@ impl<R: ReadRecorder + Drop> Logger<R> {
         Ok(())
     }
 
-    // Writes everything that is held back.
+    /// Writes everything that is held back.
     pub fn flush(&mut self)
         ensures { λ _. ⌜ Kept Flushes (R·Recorder .state (now (self .entry) .out)) (R·Recorder .state (now (self .exit) .out)) ⌝ }
     {
         close(&mut self.out);
     }
 
-    // The positions that a restart would find now, if the power failed: those of the first entries
-    // accepted, as many as have their whole record written.
+    /// The positions that a restart would find now, if the power failed: those of the first entries
+    /// accepted, as many as have their whole record written.
     pub fn survivors(&self) -> Positions
         ensures { λ r. ⌜ (R·Recorder .state (now (self .entry) .out) .sound → (n : ℕ) (es : List Entry) → Accepted n es (R·Recorder .state (now (self .entry) .out) .means) → Stands r (take (length (R·Recorder .state (now (self .entry) .out) .means .written) / 6) es)) ⌝ }
     {
         restore(self.out.text())
     }
 
-    // Shuts the log down and restores the positions from what was written: those of all the entries
-    // accepted, wherever the shutdown comes.
+    /// Shuts the log down and restores the positions from what was written: those of all the entries
+    /// accepted, wherever the shutdown comes.
     pub fn off(self) -> Positions
         ensures { λ r. ⌜ (R·Recorder .state (self .out) .sound → (n : ℕ) (es : List Entry) → Accepted n es (R·Recorder .state (self .out) .means) → Stands r es) ⌝ }
     {
@@ -95,11 +95,11 @@ impl<R: ReadRecorder + Drop> Logger<R> {
     }
 }
 
-// A log through a blocker on a page.
+/// A log through a blocker on a page.
 pub type PageLogger<'p> = Logger<Blocker<Page<'p>>>;
 
 impl<'p> Logger<Blocker<Page<'p>>> {
-    // An empty log through a blocker on a page.
+    /// An empty log through a blocker on a page.
     pub fn on_page(page: &'p mut [u8]) -> Logger<Blocker<Page<'p>>>
         ensures lent { λ r. ⌜ name (r .out .below .bytes) ≡ name (page .entry) ⌝ }
         ensures sound { λ r. ⌜ over (r .out .bytes) (r .out .used) (filled (now (r .out .below .bytes)) (r .out .below .used) (name (r .out .below .bytes) ∷ [])) .sound ⌝ }
@@ -108,14 +108,14 @@ impl<'p> Logger<Blocker<Page<'p>>> {
         Logger::new(Blocker::new(Page::new(page)))
     }
 
-    // How many bytes are written.
+    /// How many bytes are written.
     pub fn written(&self) -> usize
         ensures { λ r. ⌜ r ≡ length (over (now (self .entry) .out .bytes) (now (self .entry) .out .used) (filled (now (now (self .entry) .out .below .bytes)) (now (self .entry) .out .below .used) []) .means .written) ⌝ }
     {
         self.out.text().len()
     }
 
-    // How many bytes are held back.
+    /// How many bytes are held back.
     pub fn held(&self) -> usize
         ensures { λ r. ⌜ r ≡ length (over (now (self .entry) .out .bytes) (now (self .entry) .out .used) (filled (now (now (self .entry) .out .below .bytes)) (now (self .entry) .out .below .used) []) .means .held) ⌝ }
     {

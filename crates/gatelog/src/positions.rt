@@ -4,21 +4,21 @@ ghost use Prim.Native.Nat.{ℕ, _≤_};
 ghost use Rattle.gatelog.specs.Restored.{entries, moved, positionOf, Stands};
 use crate::entries::Entry;
 
-// Where each gate of a cabinet stands, as far as that is known.
+/// Where each gate of a cabinet stands, as far as that is known.
 #[derive(Clone, Copy)]
 pub struct Positions {
     gates: [Option<i16>; 9],
 }
 
 impl Positions {
-    // Nothing is known of any gate.
+    /// Nothing is known of any gate.
     pub fn unknown() -> Positions
         ensures { λ r. ⌜ Stands r [] ⌝ }
     {
         Positions { gates: [None; 9] }
     }
 
-    // The position of a gate, where it is known. There are the gates 1 to 9.
+    /// The position of a gate, where it is known. There are the gates 1 to 9.
     pub fn of_gate(&self, gate: u8) -> Option<i16>
         ensures { λ r. ⌜ r ≡ positionOf (now (self .entry)) gate ⌝ }
     {
@@ -29,8 +29,8 @@ impl Positions {
         }
     }
 
-    // The entry overtakes what was known of its gate. The other gates stay, and all do where there is no
-    // such gate.
+    /// The entry overtakes what was known of its gate. The other gates stay, and all do where there is no
+    /// such gate.
     pub fn note(&mut self, entry: Entry)
         ensures { λ _. ⌜ ((gate : ℕ) → 1 ≤ gate → gate ≤ 9 → positionOf (now (self .exit)) gate ≡ moved gate entry (positionOf (now (self .entry)) gate)) ⌝ }
     {
@@ -40,7 +40,7 @@ impl Positions {
     }
 }
 
-// The positions that the complete records in the bytes leave.
+/// The positions that the complete records in the bytes leave.
 pub fn restore(bytes: &[u8]) -> Positions
     ensures { λ r. ⌜ Stands r (entries (now (bytes .entry))) ⌝ }
 {

@@ -1,6 +1,6 @@
-// Logs gate positions from standard input on a page, through a blocker, and restores them at the end.
-// A line is `gate N POSITION`, `flush` or `off`; `off` and the end of the input shut the log down.
-// The first argument is the size of the page in bytes, 4096 where there is none.
+//! Logs gate positions from standard input on a page, through a blocker, and restores them at the end.
+//! A line is `gate N POSITION`, `flush` or `off`; `off` and the end of the input shut the log down.
+//! The first argument is the size of the page in bytes, 4096 where there is none.
 
 use gatelog::commands::Command;
 use gatelog::entries::Entry;
@@ -15,7 +15,7 @@ use std::io::BufReader;
 use streams::blockers::BlockerRead;
 use streams::pages::PageRead;
 
-// The size of the page.
+/// The size of the page.
 fn page_bytes(rt: &LibcRuntime) -> Result<usize, AnyError> {
     match env::args(rt)?.nth(1) {
         Some(text) => Ok(text.parse::<usize>()?),
@@ -23,7 +23,7 @@ fn page_bytes(rt: &LibcRuntime) -> Result<usize, AnyError> {
     }
 }
 
-// The line without the byte that ends it.
+/// The line without the byte that ends it.
 fn content(line: &[u8]) -> &[u8] {
     match line {
         [text @ .., b'\n'] => text,
@@ -31,7 +31,7 @@ fn content(line: &[u8]) -> &[u8] {
     }
 }
 
-// Logs one entry and says what became of it.
+/// Logs one entry and says what became of it.
 fn record(rt: &LibcRuntime, log: &mut PageLogger, line: u64, entry: Entry) -> Result<(), AnyError> {
     let gate = entry.gate;
     let position = entry.position;
@@ -50,7 +50,7 @@ fn record(rt: &LibcRuntime, log: &mut PageLogger, line: u64, entry: Entry) -> Re
     Ok(())
 }
 
-// Writes what is held back and says so.
+/// Writes what is held back and says so.
 fn flush(rt: &LibcRuntime, log: &mut PageLogger, word: &str) -> Result<(), AnyError> {
     log.flush();
     let written = log.written();
@@ -59,7 +59,7 @@ fn flush(rt: &LibcRuntime, log: &mut PageLogger, word: &str) -> Result<(), AnyEr
     Ok(())
 }
 
-// Does what the lines say, up to `off` or the end of the input.
+/// Does what the lines say, up to `off` or the end of the input.
 fn serve(rt: &LibcRuntime, log: &mut PageLogger) -> Result<(), AnyError> {
     let mut input = BufReader::new(rt.stdin());
     for number in 1..u64::MAX {
@@ -77,7 +77,7 @@ fn serve(rt: &LibcRuntime, log: &mut PageLogger) -> Result<(), AnyError> {
     Ok(())
 }
 
-// Prints the positions that are known.
+/// Prints the positions that are known.
 fn show(rt: &LibcRuntime, positions: &Positions) -> Result<(), AnyError> {
     for gate in 1..=9 {
         if let Some(position) = positions.of_gate(gate) {
@@ -87,7 +87,7 @@ fn show(rt: &LibcRuntime, positions: &Positions) -> Result<(), AnyError> {
     Ok(())
 }
 
-// The log is shut down on every way out, also where the input or the output fails.
+/// The log is shut down on every way out, also where the input or the output fails.
 fn run(rt: &LibcRuntime) -> Result<(), AnyError> {
     let mut page = vec![in rt.alloc(); 0u8; page_bytes(rt)?]?;
     let mut log = Logger::on_page(page.as_mut_slice());

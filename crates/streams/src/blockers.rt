@@ -12,17 +12,17 @@ use crate::recorders::ReadRecorder;
 use crate::recorders::Recorder;
 use crate::recorders::record_all;
 
-// Passes the first bytes down, all of them where there is space.
+/// Passes the first bytes down, all of them where there is space.
 fn pass<R: Recorder>(below: &mut R, bytes: &[u8], count: usize)
     ensures { λ _. ⌜ Kept (λ s t. count ≤ s .space → Arrive (take count (now (bytes .entry))) s t) (R·Recorder .state (now (below .entry))) (R·Recorder .state (now (below .exit))) ⌝ }
 {
     let _ = record_all(below, front(bytes, count));
 }
 
-// Where the byte stands that fills a block: the 128th.
+/// Where the byte stands that fills a block: the 128th.
 const LAST: usize = 127;
 
-// Holds bytes back and passes them down to the recorder below as the 128th arrives.
+/// Holds bytes back and passes them down to the recorder below as the 128th arrives.
 #[derive(Drop)]
 pub struct Blocker<R> {
     below: R,
@@ -31,7 +31,7 @@ pub struct Blocker<R> {
 }
 
 impl<R: FlushRecorder> Blocker<R> {
-    // A blocker with no bytes of its own: it means what the recorder below means.
+    /// A blocker with no bytes of its own: it means what the recorder below means.
     pub fn new(below: R) -> Blocker<R>
         ensures fresh { λ r. ⌜ r .below ≡ below ⌝ ∗ ⌜ r .used ≡ 0 ⌝ }
         ensures opens { λ r. ⌜ Kept (λ s t. t ≡ s) (R·Recorder .state below) (over (r .bytes) (r .used) (R·Recorder .state (r .below))) ⌝ }
@@ -43,21 +43,21 @@ impl<R: FlushRecorder> Blocker<R> {
         }
     }
 
-    // The bytes of its own that wait.
+    /// The bytes of its own that wait.
     pub fn waiting(&self) -> &[u8]
         ensures { λ r. ⌜ now r ≡ take (now (self .entry) .used) (now (self .entry) .bytes) ⌝ }
     {
         front(&self.bytes, self.used)
     }
 
-    // The recorder below.
+    /// The recorder below.
     pub fn below(&self) -> &R
         ensures { λ r. ⌜ now r ≡ now (self .entry) .below ⌝ }
     {
         &self.below
     }
 
-    // Writes everything and gives the recorder below back.
+    /// Writes everything and gives the recorder below back.
     pub fn end(self) -> R
         ensures { λ r. ⌜ Kept (λ s t. t ≡ flushed s) (over (self .bytes) (self .used) (R·Recorder .state (self .below))) (R·Recorder .state r) ⌝ }
     {

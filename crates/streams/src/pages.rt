@@ -13,8 +13,8 @@ use crate::recorders::ReadRecorder;
 use crate::recorders::Recorder;
 use crate::recorders::record_and_flush;
 
-// A page of bytes that is handed in. It writes at once and holds nothing back; its space is fixed by
-// the page's length when it is made.
+/// A page of bytes that is handed in. It writes at once and holds nothing back; its space is fixed by
+/// the page's length when it is made.
 #[derive(Drop)]
 pub struct Page<'a> {
     bytes: &'a mut [u8],
@@ -22,7 +22,7 @@ pub struct Page<'a> {
 }
 
 impl<'a> Page<'a> {
-    // An empty page over all of `bytes`.
+    /// An empty page over all of `bytes`.
     pub fn new(bytes: &'a mut [u8]) -> Page<'a>
         ensures lent { λ r. ⌜ name (r .bytes) ≡ name (bytes .entry) ⌝ }
         ensures fresh { λ r. ⌜ now (r .bytes) ≡ now (bytes .entry) ⌝ ∗ ⌜ r .used ≡ 0 ⌝ }
@@ -59,8 +59,8 @@ pub impl<'a> ReadRecorder for Page<'a> as PageRead {
     }
 }
 
-// Writes as much of a text on a page as there is space for, and answers how much that is. The lender
-// then finds it at the front of the page.
+/// Writes as much of a text on a page as there is space for, and answers how much that is. The lender
+/// then finds it at the front of the page.
 pub fn write_out(page: &mut [u8], text: &[u8]) -> usize
     ensures count { λ n. ⌜ n ≡ min (length (now (text .entry))) (length (now (page .entry))) ⌝ }
     ensures begins { λ n. ⌜ take n (now (page .exit)) ≡ take n (now (text .entry)) ⌝ }

@@ -4,23 +4,23 @@ ghost use Prim.Native.Nat.{ℕ};
 ghost use denote.Ref.{now};
 ghost use Rattle.streams.specs.Sources.{Got};
 
-// A source means the list of bytes that wait.
+/// A source means the list of bytes that wait.
 pub trait Source {
     ghost waiting: { Self → List ℕ };
 
-    // Takes the first byte that waits. Where none waits, the answer is None and nothing changes.
+    /// Takes the first byte that waits. Where none waits, the answer is None and nothing changes.
     fn get(&mut self) -> Option<u8>
         ensures { λ r. ⌜ Got r (waiting (now (self .entry))) (waiting (now (self .exit))) ⌝ };
 }
 
-// Bytes that are handed in.
+/// Bytes that are handed in.
 #[derive(Drop)]
 pub struct Bytes<'a> {
     rest: &'a [u8],
 }
 
 impl<'a> Bytes<'a> {
-    // All of `bytes` wait.
+    /// All of `bytes` wait.
     pub fn new(bytes: &'a [u8]) -> Bytes<'a>
         ensures { λ r. ⌜ now (r .rest) ≡ now (bytes .entry) ⌝ }
     {
@@ -42,7 +42,7 @@ pub impl<'a> Source for Bytes<'a> as BytesSource {
     }
 }
 
-// One source after another: the second is asked once nothing waits in the first.
+/// One source after another: the second is asked once nothing waits in the first.
 #[derive(Drop)]
 pub struct Chain<A1, B1> {
     first: A1,

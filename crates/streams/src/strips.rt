@@ -11,7 +11,7 @@ use crate::recorders::Full;
 use crate::recorders::ReadRecorder;
 use crate::recorders::Recorder;
 
-// A strip of 64 bytes of its own. It writes at once and holds nothing back.
+/// A strip of 64 bytes of its own. It writes at once and holds nothing back.
 #[derive(Drop)]
 pub struct Strip {
     bytes: [u8; 64],
@@ -19,7 +19,7 @@ pub struct Strip {
 }
 
 impl Strip {
-    // An empty strip.
+    /// An empty strip.
     pub fn new() -> Strip
         ensures fresh { λ r. ⌜ r .used ≡ 0 ⌝ }
         ensures means { λ r. ⌜ filled (r .bytes) (r .used) [] .means ≡ empty 64 ⌝ }
