@@ -1,0 +1,4 @@
+pub mod Declines
+pub mod Lines
+pub mod Figures
+pub mod Said

@@ -1,0 +1,11 @@
+pub mod Spell
+pub mod Sound
+pub mod Read
+pub mod Expressions
+pub mod Sources
+pub mod Complete
+pub mod Right
+pub mod Answers
+pub mod Shown
+pub mod Steps
+pub mod Depth

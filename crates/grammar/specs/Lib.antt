@@ -1,0 +1,5 @@
+pub mod Symbols
+pub mod Trees
+pub mod Sentences
+pub mod Machine
+pub mod Examples

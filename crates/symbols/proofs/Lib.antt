@@ -1,0 +1,11 @@
+pub mod Lookup
+pub mod Runs
+pub mod Bytewise
+pub mod Covers
+pub mod Sound
+pub mod Values
+pub mod Rules
+pub mod Cutting
+pub mod Answer
+pub mod Examples
+pub mod Order
