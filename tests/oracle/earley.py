@@ -65,41 +65,37 @@ class Grammar:
 
 G = Grammar(open(os.path.join(HERE, 'grammar.txt')).read())
 
+def close(sets, cur, k, waiting):
+    """adds to the items cur of set k, (rhs, dot, lhs, origin), all that follow from them; waiting: nonterminal -> items of this set that wait for it"""
+    seen = set(cur); i = 0; predicted = set()
+    def add(it):
+        if it not in seen: seen.add(it); cur.append(it)
+    while i < len(cur):
+        rhs, dot, lhs, org = cur[i]; i += 1
+        if dot == len(rhs):
+            for (r2, d2, l2, o2) in list((waiting if org == k else sets[org]).get(lhs, ())): add((r2, d2 + 1, l2, o2))
+        elif isinstance(rhs[dot], tuple):
+            n = rhs[dot][1]; waiting.setdefault(n, []).append((rhs, dot, lhs, org))
+            if n not in predicted:
+                predicted.add(n)
+                for r in G.rules[n]: add((r, 0, n, k))
+            if n in G.nullable: add((rhs, dot + 1, lhs, org))
+
+def states(terms, start='module'):
+    """the item set behind each number of terms, as far as a sentence begins with them"""
+    sets = []; out = []; cur = [(r, 0, start, 0) for r in G.rules[start]]
+    for k in range(len(terms) + 1):
+        w = {}; close(sets, cur, k, w); sets.append(w); out.append(cur)
+        if k == len(terms): break
+        cur = [(r, d + 1, l, o) for (r, d, l, o) in cur if d < len(r) and r[d] == terms[k]]
+        if not cur: break
+    return out
+
 def prefix(terms, start='module'):
     """('bad', i): no sentence begins with terms[:i+1]; ('end',): a beginning but no sentence; ('ok',)"""
-    g = G.rules; nullable = G.nullable
-    sets = []
-    def close(cur, k, waiting):
-        # cur: list of items (rhs, dot, lhs, origin); waiting: nonterminal -> items of this set that wait for it
-        seen = set(cur); i = 0; predicted = set()
-        while i < len(cur):
-            rhs, dot, lhs, org = cur[i]; i += 1
-            if dot == len(rhs):
-                src = waiting if org == k else sets[org]
-                for (r2, d2, l2, o2) in list(src.get(lhs, ())):
-                    it = (r2, d2 + 1, l2, o2)
-                    if it not in seen: seen.add(it); cur.append(it)
-            else:
-                s = rhs[dot]
-                if isinstance(s, tuple):
-                    n = s[1]
-                    waiting.setdefault(n, []).append((rhs, dot, lhs, org))
-                    if n not in predicted:
-                        predicted.add(n)
-                        for r in g[n]:
-                            it = (r, 0, n, k)
-                            if it not in seen: seen.add(it); cur.append(it)
-                    if n in nullable:
-                        it = (rhs, dot + 1, lhs, org)
-                        if it not in seen: seen.add(it); cur.append(it)
-        return cur
-    cur = [(r, 0, start, 0) for r in g[start]]
-    w = {}; close(cur, 0, w); sets.append(w)
-    for k, t in enumerate(terms):
-        nxt = [(r, d + 1, l, o) for (r, d, l, o) in cur if d < len(r) and r[d] == t]
-        if not nxt: return ('bad', k)
-        w = {}; close(nxt, k + 1, w); sets.append(w); cur = nxt
-    if any(l == start and d == len(r) and o == 0 for (r, d, l, o) in cur): return ('ok',)
+    out = states(terms, start)
+    if len(out) <= len(terms): return ('bad', len(out) - 1)
+    if any(l == start and d == len(r) and o == 0 for (r, d, l, o) in out[-1]): return ('ok',)
     return ('end',)
 
 OPEN = {'(', 'BLOCK', 'IF', 'DO'}; CLOSE = {')', 'ENDBLOCK', 'END', 'REP'}

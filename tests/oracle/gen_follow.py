@@ -2,34 +2,6 @@
 """Makes follow.txt: beginnings of modules, one for each different state of the prefix test, and behind a TAB all that can follow: terminals of the
 grammar, and `end` where the beginning is a module. Every other item gets 7 there. The parser of judge.py is held against it with every item."""
 import judge as J, earley as E, gen_syntax as GS, fuzz as F
-g = E.G.rules; nullable = E.G.nullable
-def states(terms):
-    """for each number of items the last item set, as far as terms go"""
-    sets = []; out = []
-    def close(cur, k, w):
-        seen = set(cur); i = 0; pred = set()
-        while i < len(cur):
-            rhs, dot, lhs, org = cur[i]; i += 1
-            if dot == len(rhs):
-                for (r2, d2, l2, o2) in list((w if org == k else sets[org]).get(lhs, ())):
-                    it = (r2, d2 + 1, l2, o2)
-                    if it not in seen: seen.add(it); cur.append(it)
-            elif isinstance(rhs[dot], tuple):
-                n = rhs[dot][1]; w.setdefault(n, []).append((rhs, dot, lhs, org))
-                if n not in pred:
-                    pred.add(n)
-                    for r in g[n]:
-                        it = (r, 0, n, k)
-                        if it not in seen: seen.add(it); cur.append(it)
-                if n in nullable:
-                    it = (rhs, dot + 1, lhs, org)
-                    if it not in seen: seen.add(it); cur.append(it)
-    cur = [(r, 0, 'module', 0) for r in g['module']]; w = {}; close(cur, 0, w); sets.append(w); out.append(cur)
-    for k, t in enumerate(terms):
-        nxt = [(r, d + 1, l, o) for (r, d, l, o) in cur if d < len(r) and r[d] == t]
-        if not nxt: break
-        w = {}; close(nxt, k + 1, w); sets.append(w); cur = nxt; out.append(cur)
-    return out
 SPELL = {'name': 'X', 'integer': '1', 'string': '"S"'}
 def main():
     best = {}
@@ -39,7 +11,7 @@ def main():
         if c[0] != 'ok': continue
         tk = J.toks(c[1]); terms = [k.term for k in tk]; words = [x[2].decode('latin-1') for x in c[1]]
         if terms.count('(') > 12 or terms.count('BLOCK') > 6: continue
-        for n, cur in enumerate(states(terms)):
+        for n, cur in enumerate(E.states(terms)):
             key = frozenset((l, r, d) for (r, d, l, o) in cur)
             if key not in best or len(best[key][0]) > n:
                 fol = {r[d] for (r, d, l, o) in cur if d < len(r) and isinstance(r[d], str)}
