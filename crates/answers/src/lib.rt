@@ -1,4 +1,5 @@
 //! What the calls answer: places in a text, and the declines with their numbers and places.
+#![tactic(auto)]
 
 mod figures;
 

@@ -1,4 +1,6 @@
 //! Cuts the text on standard input as often as the argument says, and prints how many items the rounds gave together.
+#![tactic(auto)]
+
 use lexer::cutter::cut;
 use lexer::table::ItemTable;
 use std::env;

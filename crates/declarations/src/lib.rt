@@ -1,4 +1,5 @@
 //! Reading modes, components, initial values and declarations into nodes.
+#![tactic(auto)]
 
 pub mod bricks;
 pub mod locals;

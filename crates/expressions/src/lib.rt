@@ -1,4 +1,6 @@
 //! Reading expressions and conditions into nodes, by recursive descent.
+#![tactic(auto)]
+
 ghost use Rattle.std.specs.Prelude.{◌≡◌, ◌+◌, ◌-◌, ◌*◌, ◌<◌, ◌≤◌, [], ◌∷◌, length, MatchResult, slice_index_or};
 ghost use Rattle.nodes.specs.Made.{Made, Way, Refused, LevelWay, LevelRefused, FormWay, FormRefused, Opening, PartsWay, VariableWay, VariableRefused, Counted, ArgsWay, rank as rank-of, monadics, comparators};
 ghost use Rattle.nodes.specs.Nodes.{IsExpr, IsExprs, IsPrimary, IsTerm, IsVariable, IsComparison, IsSubcondition, IsCondition};

@@ -1,5 +1,6 @@
 //! The gate log: entries of gate positions, recorded as records of six bytes, and restored from what
 //! was written.
+#![tactic(auto)]
 
 pub mod commands;
 pub mod entries;

@@ -1,3 +1,5 @@
+#![tactic(auto)]
+
 ghost use Rattle.std.specs.Prelude.{◌≡◌};
 ghost use Rattle.grammar.specs.Symbols.{code, Says};
 ghost use Rattle.grammar.specs.Sentences.{Balanced, OneAnswer, OneTree, Unique, MadeSentence, NothingAfter};

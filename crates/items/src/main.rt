@@ -1,4 +1,6 @@
 //! Cuts the text on standard input into its items and prints them, one to a line, or the line of the decline.
+#![tactic(auto)]
+
 use lexer::cutter::cut;
 use lexer::table::{ItemTable, item_of};
 use listing::{show_decline, show_item};

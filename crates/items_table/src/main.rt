@@ -1,4 +1,6 @@
 //! Cuts each text of a table and prints what comes of it.
+#![tactic(auto)]
+
 use lexer::cutter::cut;
 use lexer::table::{ItemTable, item_of};
 use listing::table::expand;

@@ -1,4 +1,5 @@
 //! The cutter: from the text of a module to the table of its items.
+#![tactic(auto)]
 
 pub mod cutter;
 mod steps;

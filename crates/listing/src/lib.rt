@@ -1,4 +1,5 @@
 //! Items and declines as the programs print them.
+#![tactic(auto)]
 
 pub mod table;
 

@@ -1,6 +1,7 @@
 //! Logs gate positions from standard input on a page, through a blocker, and restores them at the end.
 //! A line is `gate N POSITION`, `flush` or `off`; `off` and the end of the input shut the log down.
 //! The first argument is the size of the page in bytes, 4096 where there is none.
+#![tactic(auto)]
 
 use gatelog::commands::Command;
 use gatelog::entries::Entry;

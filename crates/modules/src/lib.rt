@@ -1,4 +1,6 @@
 //! Reading the items of a module into nodes.
+#![tactic(auto)]
+
 ghost use Rattle.std.specs.Prelude.{◌≡◌, ◌+◌, ◌*◌, ◌<◌, ◌≤◌, true, [], ◌∷◌, length, MatchResult, slice_index_or};
 ghost use Rattle.grammar.specs.Symbols.{among, STOP, COMMA, DATA, PROC, EXT, MODE, ENT};
 ghost use Rattle.grammar.specs.Trees.{Opt, of_opt, Many, of_many, Dec, Fields, of_fields, Mode, of_mode, Brick, of_brick, Moditem, of_moditem, Module, of_module};

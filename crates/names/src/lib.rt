@@ -1,5 +1,7 @@
 //! Names are compared without regard to the case of their letters. One search by name serves every table whose
 //! entries have a name.
+#![tactic(auto)]
+
 ghost use Rattle.std.specs.Prelude.{◌≡◌, ℕ, List, map};
 ghost use Rattle.names.specs.Spelling.{upper, Says, SameName, First, FirstOf};
 

@@ -1,4 +1,6 @@
 //! The nodes of a module's tree, and reading terminals.
+#![tactic(auto)]
+
 ghost use Rattle.std.specs.Prelude.{◌≡◌, ◌<◌, length, ◌≢◌, slice_index_or};
 ghost use Rattle.grammar.specs.Symbols.{STOP};
 

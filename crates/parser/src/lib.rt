@@ -1,3 +1,5 @@
+#![tactic(auto)]
+
 // Reading the items of a text into nodes, by recursive descent.
 ghost use Rattle.std.specs.Prelude.{◌≡◌, ℕ, ◌+◌, ◌-◌, ◌*◌, ◌^◌, ◌<◌, ◌≤◌, [], ◌∷◌, length, MatchResult, ◌≢◌, slice_index_or};
 ghost use Rattle.parser.specs.Made.{Made, Way, Refused, LevelWay, LevelRefused, FormWay, FormRefused, PartsWay, ArgsWay, rank as rank-of, monadics, comparators, FieldsWay, Shares, of_shared, NamesWay};

@@ -1,3 +1,5 @@
+#![tactic(auto)]
+
 // The static rules of a module: what its names mean, what fits, what is wrong, and which wrong is answered.
 ghost use Rattle.statics.specs.Theorems.{ExpressionsRight, ConditionsRight, StatementsRight, ModulesRight, StaticRight, InOrder, OneReading, WordsRight, MovingRight};
 ghost use Rattle.statics.specs.Examples.{Examples};

@@ -1,5 +1,6 @@
 //! The items of a module's text: what each is called, how it is spelled, and where it stands. The rules of items and
 //! of the cut are in specs/; this crate has the types that they speak of.
+#![tactic(auto)]
 
 pub mod laws;
 

@@ -1,4 +1,6 @@
 //! The syntax of a text: from its items to the tree of the module, or the decline.
+#![tactic(auto)]
+
 ghost use Rattle.std.specs.Prelude.{◌≡◌, ◌+◌, length, take, replicate};
 ghost use Rattle.nodes.specs.Nodes.{blank_node};
 ghost use Rattle.nodes.specs.declared.Fault.{Fault};

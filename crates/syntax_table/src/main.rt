@@ -1,4 +1,6 @@
 //! Reads each text of a table up to its syntax, and prints `ok`, or the place and the number of the decline.
+#![tactic(auto)]
+
 use answers::Decline;
 use lexer::table::ItemTable;
 use listing::table::expand;

@@ -1,4 +1,6 @@
 //! From the symbols of a text's items to the terminals of the grammar.
+#![tactic(auto)]
+
 ghost use Rattle.std.specs.Prelude.{◌≡◌, min, length, take, drop};
 ghost use Rattle.terminals.specs.Signs.{mark_sign, sign, signs, word_sign};
 
