@@ -1,9 +1,9 @@
 #!/bin/sh
 # Times `cut` over texts of 32 KB: the program cut_rounds, with and without many rounds, so that its start does not count.
-# Use, from the repository's folder, after `rt check cut_rounds`: bench/cut.sh [ROUNDS]
+# Use, from the repository's folder, after `rt run` in crates/cut_rounds: bench/cut.sh [ROUNDS]
 set -eu
 rounds=${1:-2000}
-program=target/bin/cut_rounds
+program=crates/cut_rounds/out/cut_rounds
 texts=$(mktemp -d)
 trap 'rm -r "$texts"' EXIT
 python3 - "$texts" <<'P'
