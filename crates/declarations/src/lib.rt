@@ -17,7 +17,7 @@ use grammar::Symbol;
 use nodes::{Fault, Node, Parsed, peek};
 
 // The mode of an array's elements.
-#[cycle(amode_array_mode_mode_reference)]
+#[cycle(modes)]
 pub fn amode(
     s: &[Symbol],
     i: usize,
@@ -41,7 +41,7 @@ pub fn amode(
 }
 
 // A mode that refers to an array, REF being at i, ARRAY behind it.
-#[cycle(amode_array_mode_mode_reference)]
+#[cycle(modes)]
 fn array_mode(
     s: &[Symbol],
     i: usize,
@@ -80,7 +80,7 @@ fn array_mode(
 }
 
 // A mode that begins with REF at i.
-#[cycle(amode_array_mode_mode_reference)]
+#[cycle(modes)]
 fn reference(
     s: &[Symbol],
     i: usize,
@@ -123,7 +123,7 @@ fn reference(
     }
 }
 
-#[cycle(amode_array_mode_mode_reference)]
+#[cycle(modes)]
 pub fn mode(
     s: &[Symbol],
     i: usize,
@@ -259,7 +259,7 @@ fn signed(
 }
 
 // A list of initial values, its bracket being at i.
-#[cycle(entry_list_value_values)]
+#[cycle(initials)]
 fn list(
     s: &[Symbol],
     i: usize,
@@ -296,7 +296,7 @@ fn list(
 }
 
 // An initial value in a data brick.
-#[cycle(entry_list_value_values)]
+#[cycle(initials)]
 fn value(
     s: &[Symbol],
     i: usize,
@@ -340,7 +340,7 @@ fn value(
 }
 
 // A value of a list, and how often it stands.
-#[cycle(entry_list_value_values)]
+#[cycle(initials)]
 fn entry(
     s: &[Symbol],
     i: usize,
@@ -373,7 +373,7 @@ fn entry(
     })
 }
 
-#[cycle(entry_list_value_values)]
+#[cycle(initials)]
 fn values(
     s: &[Symbol],
     i: usize,

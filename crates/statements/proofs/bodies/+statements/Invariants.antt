@@ -2,7 +2,7 @@ use Rattle.std.proofs.Common.{◌+◌, ◌-◌, ◌*◌, ◌<◌, length}
 use Rattle.grammar.specs.Machine.{all, statements}
 use Rattle.nodes.proofs.Repeat.{SomeMade, statements_list}
 use Rattle.statements.proofs.Blocks.{ArmsMade}
-use Rattle.statements.proofs.bodies.+arm_arms_block_body_branch_otherwise_repeat_sequence_statement_while_loop.Given as goal
+use Rattle.statements.proofs.bodies.+statements.Given as goal
 
 abbrev pub decreases-arm : goal.decreases-arm
 decreases-arm l = 8 * l.depth + 7

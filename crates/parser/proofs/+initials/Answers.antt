@@ -6,7 +6,7 @@ use Rattle.parser.proofs.Results.{otherwise, unequal, not_unequal}
 use Rattle.parser.proofs.Build.{far}
 use Rattle.parser.proofs.Repeat.{entries_list, entries_begin, starts, first_refused, refused, goes, ends}
 use Rattle.parser.proofs.Initials.{value_none, made_constant, made_identifier, made_literal, list_deep, made_empty, list_refused, list_unclosed, made_list, entry_refused, made_once, times_deep, no_times, times_unclosed, made_repeated}
-use Rattle.parser.proofs.+entry_list_value_values.Goals as goal
+use Rattle.parser.proofs.+initials.Goals as goal
 
 pub list-returns-then-depth-eq0 : goal.list-returns-then-depth-eq0
 list-returns-then-depth-eq0 t c = list_deep c.args.depth c.args.s.now c.args.i c.args.used c.args.nodes.now c.requires.there c.requires.opening c.if-depth-eq0.true

@@ -1,5 +1,5 @@
 use Rattle.std.proofs.Common.{◌+◌, ◌-◌, ◌*◌, length}
-use Rattle.parser.proofs.+amode_array_mode_mode_reference.Given as goal
+use Rattle.declarations.proofs.+modes.Given as goal
 
 abbrev pub decreases-amode : goal.decreases-amode
 decreases-amode l = 4 * (length l.s.now - l.i) + 3

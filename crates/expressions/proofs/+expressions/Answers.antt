@@ -10,7 +10,7 @@ use Rattle.nodes.proofs.Results.{otherwise, unequal, not_unequal}
 use Rattle.nodes.proofs.Build.{far, rebased}
 use Rattle.expressions.proofs.Forms.{brackets_deep, brackets_refused, brackets_unclosed, made_brackets, primary_none, made_integer, made_text, paren_refused, made_paren, form_refused, made_form, variable_ends, counts, form_of, left_refused, left_goes, dot_refused, dot_goes, made_name, called_deep, made_call, argument_refused, argument_unclosed, first_argument, made_element, more_refused, more_goes, more_unclosed, made_calls}
 use Rattle.expressions.proofs.Levels.{monads_start, monads_more, term_refused, term_plain, term_monad, term_ends, no_stop, no_operator, level_zero, level_up, level_refused, level_goes, level_ends, expr_made, expr_refused}
-use Rattle.expressions.proofs.+applied_bracketed_calls_expr_form_level_primary_term_variable.Goals as goal
+use Rattle.expressions.proofs.+expressions.Goals as goal
 
 pub applied-returns-then-depth-eq0 : goal.applied-returns-then-depth-eq0
 applied-returns-then-depth-eq0 t c = called_deep c.args.depth c.args.s.now c.args.i c.args.used c.args.nodes.now (omega arith) c.requires.named c.requires.within c.requires.opening c.if-depth-eq0.true

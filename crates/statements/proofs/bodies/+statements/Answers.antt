@@ -7,7 +7,7 @@ use Rattle.nodes.proofs.Build.{far}
 use Rattle.nodes.proofs.Repeat.{statements_list, statements_begin, starts, first_refused, refused, goes, ends}
 use Rattle.declarations.proofs.Bodies.{statements_refused, made_body}
 use Rattle.statements.proofs.Blocks.{made_dummy, block_deep, block_refused, block_unclosed, made_block, arm_refused, no_then, then_refused, made_arm, branch_deep, first_arm_refused, first_arm, arms_end, further_arm_refused, further_arm, made_branch, else_refused, else_unclosed, made_else, no_end, head_refused, no_do, do_deep, do_refused, no_rep, to_opens, to_same, while_opens, while_same, made_repeat, made_loop}
-use Rattle.statements.proofs.bodies.+arm_arms_block_body_branch_otherwise_repeat_sequence_statement_while_loop.Goals as goal
+use Rattle.statements.proofs.bodies.+statements.Goals as goal
 
 pub arm-returns-in-err-c : goal.arm-returns-in-err-c
 arm-returns-in-err-c t c =

@@ -9,7 +9,7 @@ use Rattle.parser.proofs.Keep.{agree_set, at_set, agree_trans}
 use Rattle.parser.proofs.Results.{otherwise, unequal, not_unequal}
 use Rattle.parser.proofs.Build.{far, rebased, brackets_deep, brackets_refused, brackets_unclosed, made_brackets, primary_none, made_integer, made_text, paren_refused, made_paren, form_refused, made_form, variable_ends, left_refused, left_goes, dot_refused, dot_goes, made_name, called_deep, made_call, argument_refused, argument_unclosed, first_argument, made_element, more_refused, more_goes, more_unclosed, made_calls}
 use Rattle.parser.proofs.Levels.{monads_start, monads_more, term_refused, term_plain, term_monad, term_ends, no_stop, no_operator, level_zero, level_up, level_refused, level_goes, level_ends, expr_made, expr_refused}
-use Rattle.parser.proofs.+applied_bracketed_calls_expr_form_level_primary_term_variable.Goals as goal
+use Rattle.parser.proofs.+expressions.Goals as goal
 
 pub applied-returns-then-depth-eq0 : goal.applied-returns-then-depth-eq0
 applied-returns-then-depth-eq0 t c = called_deep c.args.depth c.args.s.now c.args.i c.args.used c.args.nodes.now (omega arith) c.requires.named c.requires.within c.requires.opening c.if-depth-eq0.true
