@@ -269,7 +269,7 @@ pub data Goal : Type 0 where
   named arguments argued ClosedOn parts : Stand → Goal
   a_source : Goal
   compared : Goal
-  arms_on returned a_Body : Goal
+  arms_on returned a_body : Goal
   a_target dims an_amode maybe_mode_lem maybe_modes_lem : Goal
   TheFields fields_on a_further maybe_fields_lem : Goal
   given_on chain : Setting → Goal
@@ -364,7 +364,7 @@ Tree a_source = Source
 Tree compared = Comparator × Expr 5
 Tree arms_on = Others
 Tree returned = Opt (ℕ × Expr 5)
-Tree a_Body = Inside
+Tree a_body = Inside
 Tree a_target = Target
 Tree dims = Dims
 Tree an_amode = Amode
@@ -608,9 +608,9 @@ at_dec s c =
 -- statements
 abbrev pub at_statement : Symbol → Move Statement
 at_statement c =
-    on c BLOCK (λ α. a_Body ∷ tok ENDBLOCK ∷ α) (λ n α g. (block (enclose no_locals g.0), g.1.1))
+    on c BLOCK (λ α. a_body ∷ tok ENDBLOCK ∷ α) (λ n α g. (block (enclose no_locals g.0), g.1.1))
     (on c IF (λ α. all ors ∷ tok THEN ∷ all statements ∷ arms_on ∷ α) (λ n α g. (branched (when g.0 g.1.1.0) g.1.1.1.0, g.1.1.1.1))
-    (on c TO (λ α. an_expr ∷ tok DO ∷ a_Body ∷ tok REP ∷ α) (λ n α g. (repeat g.0 (enclose no_locals g.1.1.0), g.1.1.1.1))
+    (on c TO (λ α. an_expr ∷ tok DO ∷ a_body ∷ tok REP ∷ α) (λ n α g. (repeat g.0 (enclose no_locals g.1.1.0), g.1.1.1.1))
     (on c WHILE (λ α. all ors ∷ tok DO ∷ all statements ∷ tok REP ∷ α) (λ n α g. (loop g.0 g.1.1.0, g.1.1.1.1))
     (on c RETURN (λ α. returned ∷ α) (λ n α g. (returns n g.0, g.1))
     (on c VAL (λ α. tok NAME ∷ parts start ∷ α) (λ n α g. (assigned (one (val n (plug (name g.0) g.1.0.0))) g.1.0.1, g.1.1))
@@ -631,7 +631,7 @@ at_returned c = on c LEFT (λ α. an_expr ∷ tok RIGHT ∷ α) (λ n α g. (som
 abbrev pub at_brick : Symbol → Move Brick
 at_brick c =
     on c DATA (λ α. tok NAME ∷ tok SEMI ∷ all (decs (set stored)) ∷ tok ENDDATA ∷ α) (λ n α g. (store g.0 g.1.1.0, g.1.1.1.1))
-    (on c PROC (λ α. tok NAME ∷ tok LEFT ∷ maybe_fields_lem ∷ tok RIGHT ∷ maybe_mode_lem ∷ tok SEMI ∷ a_Body ∷ tok ENDPROC ∷ α)
+    (on c PROC (λ α. tok NAME ∷ tok LEFT ∷ maybe_fields_lem ∷ tok RIGHT ∷ maybe_mode_lem ∷ tok SEMI ∷ a_body ∷ tok ENDPROC ∷ α)
     (λ n α g. (procedure g.0 g.1.0 g.1.1.0 g.1.1.1.1.0 (enclose no_locals g.1.1.1.1.1.1.0) g.1.1.1.1.1.1.1.0, g.1.1.1.1.1.1.1.1))
     refuse)
 
@@ -671,7 +671,7 @@ at_all r c = at_whole r c (at_each r c)
 
 abbrev pub at_body : Symbol → Move Inside
 at_body c =
-    orelse (then (at_mode c) (λ α. all (declareds (set inblock)) ∷ tok SEMI ∷ a_Body ∷ α) (λ m α g. (declares (local m g.0) g.1.1.0, g.1.1.1)) never)
+    orelse (then (at_mode c) (λ α. all (declareds (set inblock)) ∷ tok SEMI ∷ a_body ∷ α) (λ m α g. (declares (local m g.0) g.1.1.0, g.1.1.1)) never)
     (mapped inside (at_all statements c))
 
 abbrev pub move : (x : Goal) → Symbol → Move (Tree x)
@@ -691,7 +691,7 @@ move a_source c = at_source c
 move compared c = at_comparator c
 move arms_on c = at_arms c
 move returned c = at_returned c
-move a_Body c = at_body c
+move a_body c = at_body c
 move a_target c = at_target c
 move dims c = at_dims c
 move an_amode c = at_amode c
@@ -753,7 +753,7 @@ void a_source = none
 void compared = none
 void arms_on = none
 void returned = some none
-void a_Body = some (inside (single dummy))
+void a_body = some (inside (single dummy))
 void a_target = none
 void dims = none
 void an_amode = none
