@@ -2,7 +2,7 @@
 use Rattle.std.proofs.Common.{◌≡◌, ℕ, zero, suc, Bool, true, false, cond, List, [], ◌∷◌, sym, refl, ap, ◌∙◌}
 use Rattle.grammar.specs.Symbols.{NAME, INTEGER, TEXT, AND, ARRAY, BYTE, DO, ELSE, ELSEIF, END, ENDBLOCK, ENDDATA, ENDPROC, INT, OR, REF, REP, THEN, LEFT, RIGHT, PLUS, MINUS, COMMA, SEMI, BECOMES}
 use Rattle.grammar.specs.Trees.{Token, token, symbol, key, Many, one, more, of_many, Opt, none, some, of_opt, of_name, of_names, Variable, name, element, component, Exprs, first, comma, of_expr, of_variable, Comparator, equal, unequal, less, at_most, greater, at_least_lem, same_place, other_place, spell_comparator, Comparison, compare, Subcondition, Condition, of_comparison, of_subcondition, of_condition, Mode, int, byte, ref_int, ref_byte, ref_record, ref_array, ref_array_brackets, Amode, simple, records, of_mode, of_amode, Fields, field, also, next, of_fields, plain, given, of_inits, Value, constant, signed, minus_signed, identifier, string, empty_list, list, Values, only, and, Entry, once, repeated, of_value, of_values, of_entry, Dec, nothing, variables, arrays, structures, of_dec, Local, local, of_local, Locals, no_locals, locals, of_locals, Destination, place, val, of_destination, Body, body, Sequence, single, sequel, Statement, dummy, block, assign, invoke, invoke_on, branch, branch_else, repeat, loop, return, return_with, Arms, when, elsewhen, of_body, of_sequence, of_statement, of_arms, Brick, store, procedure, of_brick, Moditem, blank, external_procs, external_store, record_mode, own, entry, of_moditem, Module, of_module}
-use Rattle.grammar.specs.Machine.{start, final, assigned, started, branched, inside, declares, enclose, returns, bare, to_array, refers, fielded, Setting, stored, inblock, Sort, unset, set, Initial, Declared, value, via, chained, initial, stored_name, listed, entered, exprs, ors, ands, statements, modes, entries, moditems, declareds, decs, Goal, tok, all, each, rest, ClosedOn, a_source, compared, arms_on, returned, a_body, dims, an_amode, maybe_mode_lem, maybe_modes_lem, TheFields, fields_on, a_further, maybe_fields_lem, given_on, chain, a_value, times_on, maybe_values, a_brick, an_expr, a_statement, a_mode, adds, Forest, Move, refuse, mapped, then, orelse, never, at_mode, at_all, just_name, a_module}
+use Rattle.grammar.specs.Machine.{start, final, assigned, started, branched, inside, declares, enclose, returns, bare, to_array, refers, fielded, Setting, stored, inblock, Sort, unset, set, Initial, Declared, value, via, chained, initial, stored_name, listed, entered, exprs, ors, ands, statements, modes, entries, moditems, declareds, decs, Goal, tok, all, each, rest, ClosedOn, a_source, compared, arms_on, returned, a_body, dims, an_amode, maybe_mode_lem, maybe_modes_lem, the_fields, fields_on, a_further, maybe_fields_lem, given_on, chain, a_value, times_on, maybe_values, a_brick, an_expr, a_statement, a_mode, adds, Forest, Move, refuse, mapped, then, orelse, never, at_mode, at_all, just_name, a_module}
 use Rattle.grammar.proofs.Spell.{of_initial, of_declared}
 use Rattle.grammar.proofs.Read.{read, Off, Like, Chains, off, like, chains, all_is, ors_is}
 use Rattle.grammar.proofs.Expressions.{Ends, index_at, exprs_read, expr_read}
@@ -178,16 +178,16 @@ module _ {R : Type 0} where
   maybe_mode_read (some m) α v k h = by_mode (maybe_mode_lem ∷ α) (a_mode ∷ α) k (λ g. k (some g.0, g.1)) (λ i w. refl) (λ i w. refl) (λ i w. refl) m v ∙ mode_read m α v (λ g. k (some g.0, g.1))
 
   -- components and parameters
-  fields_read : (fs : Fields) (α : List Goal) (v : List Token) (k : Forest (TheFields ∷ α) → R) → read (TheFields ∷ α) (of_fields fs v) k ≡ read (fields_on ∷ α) v (λ g. k (fielded fs g.0, g.1))
-  fields_read (field m n) α v k = by_mode (TheFields ∷ α) (a_mode ∷ tok NAME ∷ fields_on ∷ α) k (λ g. k (fielded (field g.0 g.1.0) g.1.1.0, g.1.1.1)) (λ i w. refl) (λ i w. refl) (λ i w. refl) m (token NAME n ∷ v) ∙ mode_read m (tok NAME ∷ fields_on ∷ α) (token NAME n ∷ v) (λ g. k (fielded (field g.0 g.1.0) g.1.1.0, g.1.1.1))
+  fields_read : (fs : Fields) (α : List Goal) (v : List Token) (k : Forest (the_fields ∷ α) → R) → read (the_fields ∷ α) (of_fields fs v) k ≡ read (fields_on ∷ α) v (λ g. k (fielded fs g.0, g.1))
+  fields_read (field m n) α v k = by_mode (the_fields ∷ α) (a_mode ∷ tok NAME ∷ fields_on ∷ α) k (λ g. k (fielded (field g.0 g.1.0) g.1.1.0, g.1.1.1)) (λ i w. refl) (λ i w. refl) (λ i w. refl) m (token NAME n ∷ v) ∙ mode_read m (tok NAME ∷ fields_on ∷ α) (token NAME n ∷ v) (λ g. k (fielded (field g.0 g.1.0) g.1.1.0, g.1.1.1))
   fields_read (also fs n) α v k = fields_read fs α (key COMMA ∷ token NAME n ∷ v) k
   fields_read (next fs m n) α v k =
       fields_read fs α (key COMMA ∷ of_mode m (token NAME n ∷ v)) k
       ∙ by_mode (a_further ∷ α) (a_mode ∷ tok NAME ∷ fields_on ∷ α) (λ g. k (fielded fs (g.0.0 ∷ g.0.1), g.1)) (λ g. k (fielded (next fs g.0 g.1.0) g.1.1.0, g.1.1.1)) (λ i w. refl) (λ i w. refl) (λ i w. refl) m (token NAME n ∷ v)
       ∙ mode_read m (tok NAME ∷ fields_on ∷ α) (token NAME n ∷ v) (λ g. k (fielded (next fs g.0 g.1.0) g.1.1.0, g.1.1.1))
 
-  fields_there : (fs : Fields) (α : List Goal) (v : List Token) (k : Forest (maybe_fields_lem ∷ α) → R) → read (maybe_fields_lem ∷ α) (of_fields fs v) k ≡ read (TheFields ∷ α) (of_fields fs v) (λ g. k (some g.0, g.1))
-  fields_there (field m n) α v k = by_mode (maybe_fields_lem ∷ α) (TheFields ∷ α) k (λ g. k (some g.0, g.1)) (λ i w. refl) (λ i w. refl) (λ i w. refl) m (token NAME n ∷ v)
+  fields_there : (fs : Fields) (α : List Goal) (v : List Token) (k : Forest (maybe_fields_lem ∷ α) → R) → read (maybe_fields_lem ∷ α) (of_fields fs v) k ≡ read (the_fields ∷ α) (of_fields fs v) (λ g. k (some g.0, g.1))
+  fields_there (field m n) α v k = by_mode (maybe_fields_lem ∷ α) (the_fields ∷ α) k (λ g. k (some g.0, g.1)) (λ i w. refl) (λ i w. refl) (λ i w. refl) m (token NAME n ∷ v)
   fields_there (also fs n) α v k = fields_there fs α (key COMMA ∷ token NAME n ∷ v) k
   fields_there (next fs m n) α v k = fields_there fs α (key COMMA ∷ of_mode m (token NAME n ∷ v)) k
 

@@ -271,7 +271,7 @@ pub data Goal : Type 0 where
   compared : Goal
   arms_on returned a_body : Goal
   a_target dims an_amode maybe_mode_lem maybe_modes_lem : Goal
-  TheFields fields_on a_further maybe_fields_lem : Goal
+  the_fields fields_on a_further maybe_fields_lem : Goal
   given_on chain : Setting → Goal
   linked : Goal
   a_value times_on maybe_values : Goal
@@ -370,7 +370,7 @@ Tree dims = Dims
 Tree an_amode = Amode
 Tree maybe_mode_lem = Opt Mode
 Tree maybe_modes_lem = Opt (Many Mode)
-Tree TheFields = Fields
+Tree the_fields = Fields
 Tree fields_on = List Further
 Tree a_further = Further × List Further
 Tree maybe_fields_lem = Opt Fields
@@ -644,7 +644,7 @@ at_external c =
 abbrev pub at_moditem : Symbol → Move Moditem
 at_moditem c =
     on c EXT (λ α. an_external ∷ α) (λ n α g. (externally g.0, g.1))
-    (on c MODE (λ α. tok NAME ∷ tok LEFT ∷ TheFields ∷ tok RIGHT ∷ α) (λ n α g. (record_mode g.0 g.1.0 g.1.1.0, g.1.1.1.1))
+    (on c MODE (λ α. tok NAME ∷ tok LEFT ∷ the_fields ∷ tok RIGHT ∷ α) (λ n α g. (record_mode g.0 g.1.0 g.1.1.0, g.1.1.1.1))
     (on c ENT (λ α. a_brick ∷ α) (λ n α g. (entry g.0, g.1))
     (orelse (mapped own (at_brick c)) (skip blank))))
 
@@ -697,7 +697,7 @@ move dims c = at_dims c
 move an_amode c = at_amode c
 move maybe_mode_lem c = optional (at_mode c)
 move maybe_modes_lem c = optional (at_all modes c)
-move TheFields c = at_fields c
+move the_fields c = at_fields c
 move fields_on c = at_fields_on c
 move a_further c = at_further c
 move maybe_fields_lem c = optional (at_fields c)
@@ -759,7 +759,7 @@ void dims = none
 void an_amode = none
 void maybe_mode_lem = some none
 void maybe_modes_lem = some none
-void TheFields = none
+void the_fields = none
 void fields_on = some []
 void a_further = none
 void maybe_fields_lem = some none

@@ -1,7 +1,7 @@
 #![tactic(auto)]
 
 ghost use Rattle.std.specs.Prelude.{◌≡◌};
-ghost use Rattle.grammar.specs.Symbols.{code, same};
+ghost use Rattle.grammar.specs.Symbols.{Says, code, same};
 ghost use Rattle.grammar.specs.Sentences.{Balanced, OneAnswer, OneTree, Unique, MadeSentence, NothingAfter};
 ghost use Rattle.grammar.specs.Machine.{RunRight, ViableFronts, Accepted};
 ghost use Rattle.grammar.specs.Examples.{Examples};
@@ -190,7 +190,10 @@ impl PartialEq for Symbol {
 
     ghost laws = { Keys.partial_equiv_from_equiv (Keys.on_equiv code Keys.nat_eq_equiv) };
 
-    fn eq(&self, other: &Self) -> bool {
+    fn eq(&self, other: &Self) -> bool
+        ensures test { result ≡ same self.now other.now }
+        ensures says { Says result (self.now ≡ other.now) }
+    {
         ordinal(*self) == ordinal(*other)
     }
 }

@@ -3,7 +3,7 @@ use Rattle.std.proofs.Common.{◌≡◌, ℕ, ◌+◌, ◌*◌, ◌<◌, ◌≤�
 use Rattle.grammar.specs.Symbols.{among, STOP}
 use Rattle.grammar.specs.declared.Symbol.{Symbol}
 use Rattle.grammar.specs.Trees.{Spelling, Opt, none, some, of_opt, Mode, Fields, field}
-use Rattle.grammar.specs.Machine.{Goal, Move, optional, then, never, tok, fields_on, fielded, modes, all, a_mode, TheFields, maybe_fields_lem, maybe_mode_lem, maybe_modes_lem, at_whole, move, skip}
+use Rattle.grammar.specs.Machine.{Goal, Move, optional, then, never, tok, fields_on, fielded, modes, all, a_mode, the_fields, maybe_fields_lem, maybe_mode_lem, maybe_modes_lem, at_whole, move, skip}
 use Rattle.grammar.specs.Symbols.{NAME}
 use Rattle.grammar.proofs.Steps.{skip_at}
 use Rattle.nodes.proofs.Build.{grown}
@@ -35,8 +35,8 @@ module _ (d : ℕ) (s : List Symbol) (i : ℕ) where
     pub modes_there : (α : List Goal) → at d (maybe_modes_lem ∷ α) s i ≡ at d (all modes ∷ α) s i
     modes_there α = mode_alike d (maybe_modes_lem ∷ α) (all modes ∷ α) s i h q refl refl refl
 
-    pub fields_there : (α : List Goal) → at d (maybe_fields_lem ∷ α) s i ≡ at d (TheFields ∷ α) s i
-    fields_there α = mode_alike d (maybe_fields_lem ∷ α) (TheFields ∷ α) s i h q refl refl refl
+    pub fields_there : (α : List Goal) → at d (maybe_fields_lem ∷ α) s i ≡ at d (the_fields ∷ α) s i
+    fields_there α = mode_alike d (maybe_fields_lem ∷ α) (the_fields ∷ α) s i h q refl refl refl
 
   module _ (q : among mode_firsts (get_or s i STOP) ≡ false) where
     pub no_mode_there : (α : List Goal) → at d (maybe_mode_lem ∷ α) s i ≡ at d α s i

@@ -6,7 +6,7 @@ ghost use Rattle.parser.specs.Made.{Made, Way, Refused, LevelWay, LevelRefused, 
 ghost use Rattle.parser.specs.Nodes.{IsExpr, IsExprs, IsPrimary, IsTerm, IsVariable, IsComparison, IsSubcondition, IsCondition, IsMode, IsAmode, IsFields, IsValue, IsValues, IsEntry, IsMany, IsName, IsInit};
 ghost use Rattle.grammar.specs.Symbols.{among, Says, STOP, LEFT, RIGHT, NAME, COMMA, REF, ARRAY, PLUS, MINUS};
 ghost use Rattle.grammar.specs.Trees.{Expr, Exprs, Primary, Term, Variable, token, key, of_expr, of_exprs, of_primary, of_term, of_variable, Comparison, Subcondition, Condition, Mode, Amode, of_comparison, of_subcondition, of_condition, of_mode, of_amode, Fields, Value, Values, Entry, of_fields, of_value, of_values, of_entry, Many, Init, of_init, of_inits, of_name, of_names};
-ghost use Rattle.grammar.specs.Machine.{an_expr, a_primary, a_term, tok, each, all, ands, ors, a_mode, an_amode, TheFields, a_value, entries, declareds, unset, set as set-sort, stored, inblock};
+ghost use Rattle.grammar.specs.Machine.{an_expr, a_primary, a_term, tok, each, all, ands, ors, a_mode, an_amode, the_fields, a_value, entries, declareds, unset, set as set-sort, stored, inblock};
 
 use grammar::Symbol;
 
@@ -651,7 +651,7 @@ fn further(
     requires there { at.next < length s.now }
     requires room { used + 2 * length s.now ≤ length nodes.old + 2 * i }
     requires begun { Made 0 Fields IsFields of_fields (FieldsWay depth s.now i) s.now i used nodes.old nodes.old at }
-    ensures { MatchResult result (λ p. Made 0 Fields IsFields of_fields (FieldsWay depth s.now i) s.now i used nodes.old nodes.new p × (at.next < p.next)) (λ f. Refused (TheFields ∷ []) depth s.now i f) }
+    ensures { MatchResult result (λ p. Made 0 Fields IsFields of_fields (FieldsWay depth s.now i) s.now i used nodes.old nodes.new p × (at.next < p.next)) (λ f. Refused (the_fields ∷ []) depth s.now i f) }
 {
     if peek(s, at.next + 1) == Symbol::Name {
         nodes[at.used] = Node::AlsoField(at.root, at.next + 1);
@@ -683,7 +683,7 @@ fn fields(
 ) -> Result<Parsed, Fault>
     requires within { i ≤ length s.now }
     requires room { used + 2 * length s.now ≤ length nodes.old + 2 * i }
-    ensures { MatchResult result (λ p. Made 0 Fields IsFields of_fields (Way (TheFields ∷ []) depth s.now i) s.now i used nodes.old nodes.new p) (λ f. Refused (TheFields ∷ []) depth s.now i f) }
+    ensures { MatchResult result (λ p. Made 0 Fields IsFields of_fields (Way (the_fields ∷ []) depth s.now i) s.now i used nodes.old nodes.new p) (λ f. Refused (the_fields ∷ []) depth s.now i f) }
 {
     let m = mode(s, i, depth, nodes, used)?;
     if peek(s, m.next) != Symbol::Name {
