@@ -1,5 +1,5 @@
 -- Every expression is read back from its items. Assumes nothing.
-use Rattle.std.proofs.Common.{◌≡◌, ℕ, zero, suc, Bool, true, false, cond, List, [], ◌∷◌, sym, refl, ap, ◌∙◌}
+use Rattle.std.proofs.Common.{◌≡◌, ℕ, Bool, false, cond, List, [], ◌∷◌, sym, refl, ap, ◌∙◌}
 use Rattle.grammar.specs.Symbols.{NAME, INTEGER, TEXT, LEFT, RIGHT, COMMA, DOT, BECOMES, same, Symbol}
 use Rattle.grammar.specs.Trees.{Token, token, symbol, key, none, some, Dyadic, times, divide, modulo, land, lor, nev, plus, minus, spell, Monadic, positive, negative, absolute, complement, narrow, size, spell_monadic, Expr, term, up, dyadic, Term, monadic, primary, Primary, integer, text, variable, call, call_on, paren, Variable, name, element, component, Exprs, first, comma, of_expr, of_term, of_primary, of_variable, of_exprs}
 use Rattle.grammar.specs.Machine.{Flat, here, below, link, State, close, fresh, put, folds, Stand, inner, start, right, plug, argument, goes, Result, finish, gather, finish_calls, finish_closed, finish_arguments, finish_named, exprs, Goal, tok, rest, links_on, a_term, a_primary, named, arguments, argued, ClosedOn, parts, an_expr, Tree, Forest, Move, shift, on, mapped, behind, pull, Seen, just_name, one_index, longer, var_of, indexed, seen, next_goal}

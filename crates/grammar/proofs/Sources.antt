@@ -1,5 +1,5 @@
 -- Assignments are read back from their items, and expressions where another goal begins with them. Assumes nothing.
-use Rattle.std.proofs.Common.{◌≡◌, ℕ, zero, suc, Bool, true, false, cond, List, [], ◌∷◌, sym, refl, ap, ◌∙◌}
+use Rattle.std.proofs.Common.{◌≡◌, ℕ, false, List, [], ◌∷◌, refl, ap, ◌∙◌}
 use Rattle.grammar.specs.Symbols.{NAME, INTEGER, TEXT, LEFT, RIGHT, DOT, BECOMES}
 use Rattle.grammar.specs.Trees.{Token, token, symbol, key, Many, one, more, of_many, Monadic, positive, negative, absolute, complement, narrow, size, spell_monadic, Expr, Term, monadic, primary, integer, text, variable, call, call_on, paren, Variable, name, element, component, Exprs, of_expr, of_term, of_primary, of_variable, Destination, place, val, of_destination}
 use Rattle.grammar.specs.Machine.{close, folds, arrange, inner, start, right, plug, Source, final, onto, links, goes, assigned, finish, finish_closed, finish_named, inblock, value, uses, block_name, exprs, Goal, tok, rest, links_on, a_term, named, ClosedOn, parts, a_source, chain, linked, an_expr, a_statement, Tree, Forest, Move, shift, skip, refuse, mapped, at_links, no_parts, Seen, just_name, one_index, longer, var_of, seen, next_goal}

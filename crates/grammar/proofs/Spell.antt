@@ -1,5 +1,5 @@
 -- The items of the trees of goals, and of what is made of them. Assumes nothing.
-use Rattle.std.proofs.Common.{◌≡◌, ℕ, zero, suc, List, [], ◌∷◌, sym, refl, ap, ◌∙◌}
+use Rattle.std.proofs.Common.{◌≡◌, ℕ, zero, suc, List, [], ◌∷◌, refl, ap, ◌∙◌}
 use Rattle.grammar.specs.Symbols.{NAME, INTEGER, ARRAY, BYTE, DATA, ELSE, ELSEIF, END, ENDDATA, EXT, INT, PROC, REF, RETURN, THEN, VAL, LEFT, RIGHT, COMMA, DOT, SEMI, BECOMES, Symbol}
 use Rattle.grammar.specs.Trees.{Token, token, mark, key, Spelling, Many, one, more, of_many, Opt, none, some, of_opt, of_name, of_names, Dyadic, spell, Expr, Term, primary, variable, call, call_on, Variable, name, element, component, Exprs, first, comma, of_expr, of_term, of_primary, of_variable, of_exprs, spell_comparator, of_comparison, of_subcondition, of_condition, of_mode, of_amode, Fields, also, next, of_fields, of_init, Value, Values, of_value, of_values, of_entry, of_dec, of_local, Locals, locals, of_locals, Destination, place, val, of_destination, Arms, elsewhen, of_body, of_sequence, of_statement, of_arms, of_brick, of_moditem}
 use Rattle.grammar.specs.Machine.{Flat, here, below, Link, link, State, close_level, close, fresh, put, folds, arrange, Stand, inner, start, right, Part, index, select, plug, Source, final, onto, Tail, assigns, links, End, Rest, Ending, Closed, Argued, shut, several, Arguments, no_argument, argument, Named, called, goes, Result, assigned, finish, finish_call, gather, finish_calls, finish_closed, finish_argued, finish_arguments, finish_named, Others, ends, otherwise, elseif, branched, Inside, inside, declares, enclose, returns, Dims, bare, brackets, Target, to_int, to_byte, to_record, to_array, refers, Further, alike, other, fielded, Setting, stored, inblock, Sort, unset, set, Initial, Declared, Chain, value, via, chained, initial, stored_name, Linked, through, uses, block_name, listed, entered, External, procs, stores, externally, Repetition, exprs, ors, ands, statements, modes, entries, moditems, declareds, decs, Goal, tok, all, each, rest, links_on, a_term, a_primary, named, arguments, argued, ClosedOn, parts, a_source, compared, arms_on, returned, a_body, a_target, dims, an_amode, maybe_mode_lem, maybe_modes_lem, the_fields, fields_on, a_further, maybe_fields_lem, given_on, chain, linked, a_value, times_on, maybe_values, an_external, a_brick, separator, Single, Whole, begun, added, adds, Tree, Forest}

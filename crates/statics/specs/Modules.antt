@@ -2,9 +2,9 @@
 use Rattle.std.specs.Prelude.{◌≡◌, ℕ, ◌+◌, true, ◌⊎◌, List, [], ◌∷◌, ◌++◌, map, length, Some, None, codes, Option}
 use Rattle.grammar.specs.Trees.{Many, one, more, Opt, Fields, also, Init, given, Value, Dec, variables, arrays, structures, Locals, Body, body, Brick, store, procedure, Moditem, blank, external_procs, external_store, own, entry, Module}
 use Rattle.grammar.specs.Trees as tree
-use Rattle.statics.specs.Modes.{Word, Mode, INT, BYTE, Thing, place, array, structure}
+use Rattle.statics.specs.Modes.{Word, Mode, INT, BYTE, place, array, structure}
 use Rattle.statics.specs.Laws.{Wrongs, Never, At, Both, Lacks}
-use Rattle.statics.specs.Scopes.{Text, Env, Class, record_mode, brick, stored, local, routine, part, Signature, Component, inside_of}
+use Rattle.statics.specs.Scopes.{Text, Env, record_mode, brick, stored, local, routine, part, Signature, Component, inside_of}
 use Rattle.statics.specs.Expressions.{each}
 use Rattle.statics.specs.Written.{mode_of, element_of, record_name, written, written_element, gather, list_names, Site, site, declare}
 use Rattle.statics.specs.Statements.{a_body, inside}
