@@ -139,7 +139,7 @@ abbrev mutual
 
 -- Conditions.
 pub data Comparator : Type 0 where
-  equal unequal less at_most greater at_least_lem same_place other_place : Comparator
+  equal unequal less at_most greater at_least same_place other_place : Comparator
 
 abbrev pub spell_comparator : Comparator → Symbol
 spell_comparator equal = EQUAL
@@ -147,7 +147,7 @@ spell_comparator unequal = HASH
 spell_comparator less = LESS
 spell_comparator at_most = ATMOST
 spell_comparator greater = MORE
-spell_comparator at_least_lem = ATLEAST
+spell_comparator at_least = ATLEAST
 spell_comparator same_place = IS
 spell_comparator other_place = ISNT
 

@@ -1,7 +1,7 @@
 -- Expressions and conditions are judged right, construct by construct. Assumes nothing.
 use Rattle.std.proofs.Common.{◌≡◌, ℕ, suc, ◌+◌, ◌<◌, ◌≤◌, Bool, cond, List, [], length, Some, None, Ok, Err, Option, Result, sym, refl, subst, inl, inr, arith}
 use Rattle.statics.specs.declared.Refusal.{Refusal}
-use Rattle.grammar.specs.Trees.{Dyadic, Expr, term, up, dyadic, Term, monadic, primary, Primary, integer, text, variable, call, call_on, paren, Variable, name, element, component, Exprs, first, comma, Comparator, equal, unequal, less, at_most, greater, at_least_lem, same_place, other_place, Comparison, compare, Condition, Many, one, more}
+use Rattle.grammar.specs.Trees.{Dyadic, Expr, term, up, dyadic, Term, monadic, primary, Primary, integer, text, variable, call, call_on, paren, Variable, name, element, component, Exprs, first, comma, Comparator, equal, unequal, less, at_most, greater, at_least, same_place, other_place, Comparison, compare, Condition, Many, one, more}
 use Rattle.statics.specs.Modes.{Mode, INT, Thing, value, Need, mode, elements, components, Fits, subscript, referred_record}
 use Rattle.statics.specs.Laws.{Wrongs, Never, Both, Lacks, Clean}
 use Rattle.statics.specs.Scopes.{Env, Class, Signature, Head, thing, signature, Called, Stands, Runs, Heads}
@@ -227,7 +227,7 @@ agree_told unequal m k = yes tt
 agree_told less m k = yes tt
 agree_told at_most m k = yes tt
 agree_told greater m k = yes tt
-agree_told at_least_lem m k = yes tt
+agree_told at_least m k = yes tt
 agree_told same_place m k = same_mode_told m k
 agree_told other_place m k = same_mode_told m k
 

@@ -10,7 +10,7 @@ use Rattle.statics.specs.Expressions.{each}
 use Rattle.statics.specs.Written.{mode_of, element_of}
 use Rattle.statics.specs.Statements.{Starts}
 use Rattle.statics.specs.Values.{Want, free, simply, several, recorded, inner, TakesInteger, address_mode, TakesName, TakesString, TakesList, Repeats, total, how_many, front_value, ThenAsk, initial, listed, an_entry, AllStart, ElementStarts, Valueless}
-use Rattle.statics.specs.Modules.{maybe_mode_lem, modes, maybe_written, modes_written, fields_written, parameters_written, Admitted, data_item, data_dec, in_record, in_procedure, outermost, a_brick, moditem, module_env, module_wrongs}
+use Rattle.statics.specs.Modules.{maybe_mode, modes, maybe_written, modes_written, fields_written, parameters_written, Admitted, data_item, data_dec, in_record, in_procedure, outermost, a_brick, moditem, module_env, module_wrongs}
 use Rattle.statics.specs.Order.{Span, InMany, InMode, InName, InInit, InValue, InValues, InEntry, InDec, InOpt, InFields, InBrick, InModitem, InModule}
 use Rattle.statics.specs.JudgeExpressions.{then, must, keeps, judge_each}
 use Rattle.statics.specs.JudgeStatements.{judge_written}
@@ -263,7 +263,7 @@ moditem_right Γ (external_procs k ms m ns) lo hi i =
     let h = many_le InName name_le ns j.0 hi j.2 in
     next (opt_le (InMany InMode) (many_le InMode mode_le) ms lo i.0 i.1) (omega arith) (modes_right Γ ms lo i.0 i.1)
     (next g h (maybe_right Γ m i.0 j.0 j.1)
-    (each_right _ _ InName name_le (λ n lo hi q. tested lo hi 10 n q (admitted_told (Γ.text.word n) (record { takes = modes Γ.text ms; gives = maybe_mode_lem Γ.text m }))) ns j.0 hi j.2))
+    (each_right _ _ InName name_le (λ n lo hi q. tested lo hi 10 n q (admitted_told (Γ.text.word n) (record { takes = modes Γ.text ms; gives = maybe_mode Γ.text m }))) ns j.0 hi j.2))
 moditem_right Γ (external_store n ds) lo hi i = likewise _ (λ k p w. w) (λ k p w. w) (refusing lo hi 10 n i)
 moditem_right Γ (tree.record_mode n k fs) lo hi i = wider lo hi (omega (arith, i.0)) (omega arith) (fields_right (in_record Γ fs) fs (n + 1) hi i.1)
 moditem_right Γ (own b) lo hi i = brick_right Γ b lo hi i

@@ -118,12 +118,12 @@ level-loop-nodes-preserved t c = level_goes c.args.depth c.args.s.now c.args.i c
 pub level-returns : goal.level-returns
 level-returns t c = level_ends c.args.depth c.args.s.now c.args.i c.args.used (c.args.n - 1) _ _ c.loop-nodes.at c.loop-nodes.invariant c.args.n (omega arith) _ c.in_ok-at.ensures.kept (λ e. c.loop-nodes-test.false (c.rank.ensures ∙ ap rank-of c.peek.ensures.is ∙ e))
 
-pub primary-returns-in_err-e : goal.primary-returns-in_err-e
-primary-returns-in_err-e t c =
+pub primary-returns-in_err-e-in-Left : goal.primary-returns-in_err-e-in-Left
+primary-returns-in_err-e-in-Left t c =
     let p = err_from_is_err_and c.from_residual.result c.from_residual.ensures.1 in
     let n = c.in-Left.ensures in
     let h : c.args.i < length c.args.s.now = n.there (far LEFT _ refl refl) in
-    rw (p.1, p.2) (paren_refused c.args.depth c.args.s.now c.args.i c.args.used c.args.nodes.now h (sym n.is) _ c.in_err-e.ensures)
+    rw (p.1, p.2) (paren_refused c.args.depth c.args.s.now c.args.i c.args.used c.args.nodes.now h (sym n.is) _ c.in_err-e-in-Left.ensures)
 
 pub primary-returns-in-Integer : goal.primary-returns-in-Integer
 primary-returns-in-Integer t c =
@@ -143,12 +143,12 @@ primary-returns-in-Name t c =
     let h : c.args.i < length c.args.s.now = n.there (far NAME _ refl refl) in
     otherwise c.form.result (λ p m. made_form c.args.depth c.args.s.now c.args.i c.args.used _ h (sym n.is) _ p m) (λ f r. form_refused c.args.depth c.args.s.now c.args.i c.args.used c.args.nodes.now h (sym n.is) f r) c.form.ensures
 
-pub primary-returns-in_ok-e : goal.primary-returns-in_ok-e
-primary-returns-in_ok-e t c =
-    let m = c.in_ok-e.ensures in
+pub primary-returns-in_ok-e-in-Left : goal.primary-returns-in_ok-e-in-Left
+primary-returns-in_ok-e-in-Left t c =
+    let m = c.in_ok-e-in-Left.ensures in
     let n = c.in-Left.ensures in
     let h : c.args.i < length c.args.s.now = n.there (far LEFT _ refl refl) in
-    made_paren c.args.depth c.args.s.now c.args.i c.args.used _ h (sym n.is) _ c.in_ok-e.e (omega (arith, m)) m.0 m.1
+    made_paren c.args.depth c.args.s.now c.args.i c.args.used _ h (sym n.is) _ c.in_ok-e-in-Left.e (omega (arith, m)) m.0 m.1
 
 pub primary-returns-in_default : goal.primary-returns-in_default
 primary-returns-in_default t c =
@@ -176,17 +176,17 @@ term-loop-k-2-preserved t c =
 pub term-returns : goal.term-returns
 term-returns t c = term_ends c.args.depth c.args.s.now c.args.i c.loop-k-2.k c.args.used _ _ _ c.loop-k-2.at (omega arith) c.in_ok-at.ensures.kept c.loop-k-2.invariant.1
 
-pub variable-returns-in_err-e : goal.variable-returns-in_err-e
-variable-returns-in_err-e t c =
+pub variable-returns-in_err-e-in-Left : goal.variable-returns-in_err-e-in-Left
+variable-returns-in_err-e-in-Left t c =
     let p = err_from_is_err_and c.from_residual.result c.from_residual.ensures.1 in
     let n = c.in-Left.ensures in
-    rw (p.1, p.2) (left_refused c.args.depth c.args.s.now c.args.i c.args.used _ _ c.loop-nodes.at c.loop-nodes.invariant (n.there (far LEFT _ refl refl)) (sym n.is) _ c.in_err-e.ensures)
+    rw (p.1, p.2) (left_refused c.args.depth c.args.s.now c.args.i c.args.used _ _ c.loop-nodes.at c.loop-nodes.invariant (n.there (far LEFT _ refl refl)) (sym n.is) _ c.in_err-e-in-Left.ensures)
 
 pub variable-loop-nodes-preserved-in-Left : goal.variable-loop-nodes-preserved-in-Left
 variable-loop-nodes-preserved-in-Left t c =
-    let m = c.in_ok-e.ensures in
+    let m = c.in_ok-e-in-Left.ensures in
     let n = c.in-Left.ensures in
-    left_goes c.args.depth c.args.s.now c.args.i c.args.used _ _ c.loop-nodes.at c.loop-nodes.invariant (n.there (far LEFT _ refl refl)) (sym n.is) _ c.in_ok-e.e (omega (arith, m)) m.0 m.1
+    left_goes c.args.depth c.args.s.now c.args.i c.args.used _ _ c.loop-nodes.at c.loop-nodes.invariant (n.there (far LEFT _ refl refl)) (sym n.is) _ c.in_ok-e-in-Left.e (omega (arith, m)) m.0 m.1
 
 pub variable-returns-then-ne : goal.variable-returns-then-ne
 variable-returns-then-ne t c =
