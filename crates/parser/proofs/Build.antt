@@ -1,9 +1,9 @@
 -- What the parser's functions answer, step by step. Assumes nothing.
-use Rattle.std.proofs.Common.{◌≡◌, ℕ, zero, suc, ◌+◌, ◌-◌, ◌*◌, ◌<◌, ◌≤◌, Bool, true, false, eqb, List, [], ◌∷◌, ◌++◌, length, get_or, drop, set, sym, refl, ap, ◌∙◌, subst, arith}
+use Rattle.std.proofs.Common.{◌≡◌, ℕ, zero, suc, ◌+◌, ◌-◌, ◌*◌, ◌<◌, ◌≤◌, false, eqb, List, [], ◌∷◌, ◌++◌, length, get_or, drop, set, sym, refl, ap, ◌∙◌, arith}
 use borrow.Author.Tests.{eqb-false}
 use Rattle.grammar.specs.Symbols.{code, not_same, STOP, NAME, INTEGER, TEXT, LEFT, RIGHT, COMMA, DOT}
 use Rattle.grammar.specs.declared.Symbol.{Symbol}
-use Rattle.grammar.specs.Trees.{Spelling, Token, token, key, Opt, none, some, Expr, Term, Primary, integer, text, variable, call, call_on, paren, Variable, name, element, component, Exprs, first, comma, of_expr, of_exprs, of_primary, of_variable}
+use Rattle.grammar.specs.Trees.{Spelling, Token, token, key, Opt, some, Expr, Primary, integer, text, variable, call, call_on, paren, Variable, name, element, component, Exprs, first, comma, of_expr, of_exprs, of_primary, of_variable}
 use Rattle.grammar.specs.Sentences.{items}
 use Rattle.grammar.specs.Machine.{Goal, Forest, Move, refuse, on, goes, mapped, tok, rest, exprs, an_expr, a_primary, named, arguments, argued, closed_on, parts, Stand, inner, start, right, argument, behind, Seen, just_name, one_index, longer, seen, indexed, next_goal, step_to, go, level, fewer, run}
 use Rattle.grammar.proofs.Expressions.{on_not}

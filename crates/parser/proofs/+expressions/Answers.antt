@@ -1,6 +1,6 @@
-use Rattle.std.proofs.Common.{◌≡◌, ◌+◌, ◌-◌, ◌<◌, ◌≤◌, true, false, [], ◌∷◌, length, get_or, set, sym, refl, ap, ◌∙◌, arith, length-set}
+use Rattle.std.proofs.Common.{◌≡◌, ◌+◌, ◌-◌, ◌<◌, true, ◌∷◌, length, set, sym, refl, ap, ◌∙◌, arith, length-set}
 use Rattle.std.proofs.lemmas.Result.{err_from_is_err_and}
-use Rattle.grammar.specs.Symbols.{among, STOP, NAME, INTEGER, TEXT, LEFT, RIGHT, COMMA, DOT}
+use Rattle.grammar.specs.Symbols.{among, NAME, INTEGER, TEXT, LEFT, RIGHT, COMMA, DOT}
 use Rattle.grammar.specs.Machine.{links_on}
 use Rattle.parser.specs.Nodes.{Agree}
 use Rattle.parser.specs.declared.Node.TheVariants.{Name, Element}
@@ -8,7 +8,7 @@ use Rattle.parser.specs.Made.{monadics, rank as rank-of}
 use Rattle.parser.proofs.Keep.{agree_set, at_set, agree_trans}
 use Rattle.parser.proofs.Results.{otherwise, differs, agrees}
 use Rattle.parser.proofs.Build.{far, rebased, brackets_deep, brackets_refused, brackets_unclosed, made_brackets, primary_none, made_integer, made_text, paren_refused, made_paren, form_refused, made_form, variable_ends, left_refused, left_goes, dot_refused, dot_goes, made_name, called_deep, made_call, argument_refused, argument_unclosed, first_argument, made_element, more_refused, more_goes, more_unclosed, made_calls}
-use Rattle.parser.proofs.Levels.{monads_start, monads_more, term_refused, term_plain, term_monad, term_ends, no_stop, no_operator, level_zero, level_up, level_refused, level_goes, level_ends, expr_made, expr_refused}
+use Rattle.parser.proofs.Levels.{monads_more, term_refused, term_plain, term_monad, term_ends, no_stop, no_operator, level_zero, level_up, level_refused, level_goes, level_ends, expr_made, expr_refused}
 use Rattle.parser.proofs.+expressions.Goals as goal
 
 pub applied-returns-then-depth-eq0 : goal.applied-returns-then-depth-eq0

@@ -1,4 +1,4 @@
-use Rattle.std.proofs.Common.{◌≡◌, sym, refl, ◌∙◌, arith}
+use Rattle.std.proofs.Common.{sym, refl, ◌∙◌, arith}
 use Rattle.grammar.specs.Symbols.{NAME}
 use Rattle.parser.proofs.Results.{differs, agrees}
 use Rattle.parser.proofs.Build.{far}
