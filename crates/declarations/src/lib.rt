@@ -9,7 +9,7 @@ ghost use Rattle.nodes.specs.Made.{Made, Way, Refused, FieldsWay, Shares, of_sha
 ghost use Rattle.nodes.specs.Nodes.{IsExpr, IsMode, IsAmode, IsFields, IsValue, IsValues, IsEntry, IsMany, IsName, IsInit};
 ghost use Rattle.grammar.specs.Symbols.{Says, among, STOP, LEFT, COMMA, REF, ARRAY, PLUS, MINUS};
 ghost use Rattle.grammar.specs.Trees.{Expr, of_expr, Mode, Amode, of_mode, of_amode, Fields, Value, Values, Entry, of_fields, of_value, of_values, of_entry, Many, Init, of_init, of_inits, of_name, of_names};
-ghost use Rattle.grammar.specs.Machine.{each, all, a_mode, an_amode, TheFields, a_value, entries, declareds, unset, set as set-sort, stored, inblock};
+ghost use Rattle.grammar.specs.Machine.{each, all, a_mode, an_amode, the_fields, a_value, entries, declareds, unset, set as set-sort, stored, inblock};
 ghost use Rattle.declarations.specs.Declaring.{mode_firsts};
 
 use expressions::expr;
@@ -17,7 +17,7 @@ use grammar::Symbol;
 use nodes::{Fault, Node, Parsed, peek};
 
 // The mode of an array's elements.
-#[cycle(amode_array_mode_mode_reference)]
+#[cycle(modes)]
 pub fn amode(
     s: &[Symbol],
     i: usize,
@@ -41,7 +41,7 @@ pub fn amode(
 }
 
 // A mode that refers to an array, REF being at i, ARRAY behind it.
-#[cycle(amode_array_mode_mode_reference)]
+#[cycle(modes)]
 fn array_mode(
     s: &[Symbol],
     i: usize,
@@ -80,7 +80,7 @@ fn array_mode(
 }
 
 // A mode that begins with REF at i.
-#[cycle(amode_array_mode_mode_reference)]
+#[cycle(modes)]
 fn reference(
     s: &[Symbol],
     i: usize,
@@ -123,7 +123,7 @@ fn reference(
     }
 }
 
-#[cycle(amode_array_mode_mode_reference)]
+#[cycle(modes)]
 pub fn mode(
     s: &[Symbol],
     i: usize,
@@ -180,7 +180,7 @@ fn further(
     requires there { at.next < length s.now }
     requires room { used + 2 * length s.now ≤ length nodes.old + 2 * i }
     requires begun { Made 0 Fields IsFields of_fields (FieldsWay depth s.now i) s.now i used nodes.old nodes.old at }
-    ensures { MatchResult result (λ p. Made 0 Fields IsFields of_fields (FieldsWay depth s.now i) s.now i used nodes.old nodes.new p × (at.next < p.next)) (λ f. Refused (TheFields ∷ []) depth s.now i f) }
+    ensures { MatchResult result (λ p. Made 0 Fields IsFields of_fields (FieldsWay depth s.now i) s.now i used nodes.old nodes.new p × (at.next < p.next)) (λ f. Refused (the_fields ∷ []) depth s.now i f) }
 {
     if peek(s, at.next + 1) == Symbol::Name {
         nodes[at.used] = Node::AlsoField(at.root, at.next + 1);
@@ -212,7 +212,7 @@ pub fn fields(
 ) -> Result<Parsed, Fault>
     requires within { i ≤ length s.now }
     requires room { used + 2 * length s.now ≤ length nodes.old + 2 * i }
-    ensures { MatchResult result (λ p. Made 0 Fields IsFields of_fields (Way (TheFields ∷ []) depth s.now i) s.now i used nodes.old nodes.new p) (λ f. Refused (TheFields ∷ []) depth s.now i f) }
+    ensures { MatchResult result (λ p. Made 0 Fields IsFields of_fields (Way (the_fields ∷ []) depth s.now i) s.now i used nodes.old nodes.new p) (λ f. Refused (the_fields ∷ []) depth s.now i f) }
 {
     let m = mode(s, i, depth, nodes, used)?;
     if peek(s, m.next) != Symbol::Name {
@@ -259,7 +259,7 @@ fn signed(
 }
 
 // A list of initial values, its bracket being at i.
-#[cycle(entry_list_value_values)]
+#[cycle(initials)]
 fn list(
     s: &[Symbol],
     i: usize,
@@ -296,7 +296,7 @@ fn list(
 }
 
 // An initial value in a data brick.
-#[cycle(entry_list_value_values)]
+#[cycle(initials)]
 fn value(
     s: &[Symbol],
     i: usize,
@@ -340,7 +340,7 @@ fn value(
 }
 
 // A value of a list, and how often it stands.
-#[cycle(entry_list_value_values)]
+#[cycle(initials)]
 fn entry(
     s: &[Symbol],
     i: usize,
@@ -373,7 +373,7 @@ fn entry(
     })
 }
 
-#[cycle(entry_list_value_values)]
+#[cycle(initials)]
 fn values(
     s: &[Symbol],
     i: usize,

@@ -2,7 +2,7 @@
 use Rattle.std.proofs.Common.{◌≡◌, ℕ, ◌+◌, ◌-◌, ◌*◌, ◌<◌, ◌≤◌, Bool, true, false, List, [], ◌∷◌, ◌++◌, length, get_or, drop, set, sym, refl, ap, ◌∙◌, subst, arith}
 use Rattle.grammar.specs.Symbols.{among, STOP, EQUAL, HASH, LESS, ATMOST, MORE, ATLEAST, IS, ISNT}
 use Rattle.grammar.specs.declared.Symbol.{Symbol}
-use Rattle.grammar.specs.Trees.{Token, key, mark, Opt, some, Expr, Comparison, compare, Comparator, equal, unequal, less, at_most, greater, at_least_lem, same_place, other_place, spell_comparator, of_expr, of_comparison}
+use Rattle.grammar.specs.Trees.{Token, key, mark, Opt, some, Expr, Comparison, compare, Comparator, equal, unequal, less, at_most, greater, at_least, same_place, other_place, spell_comparator, of_expr, of_comparison}
 use Rattle.grammar.specs.Sentences.{items}
 use Rattle.grammar.specs.Machine.{Goal, Move, refuse, each, ands, an_expr, compared, at_comparator, level, step_to}
 use Rattle.grammar.proofs.Expressions.{on_not}
@@ -30,7 +30,7 @@ comparator_of c h =
     (found_in LESS (ATMOST ∷ MORE ∷ ATLEAST ∷ IS ∷ ISNT ∷ []) IsComparator c (less, refl)
     (found_in ATMOST (MORE ∷ ATLEAST ∷ IS ∷ ISNT ∷ []) IsComparator c (at_most, refl)
     (found_in MORE (ATLEAST ∷ IS ∷ ISNT ∷ []) IsComparator c (greater, refl)
-    (found_in ATLEAST (IS ∷ ISNT ∷ []) IsComparator c (at_least_lem, refl)
+    (found_in ATLEAST (IS ∷ ISNT ∷ []) IsComparator c (at_least, refl)
     (found_in IS (ISNT ∷ []) IsComparator c (same_place, refl)
     (found_in ISNT [] IsComparator c (other_place, refl) (no_such c (IsComparator c))))))))) h
 
@@ -55,7 +55,7 @@ compare_step unequal α = refl
 compare_step less α = refl
 compare_step at_most α = refl
 compare_step greater α = refl
-compare_step at_least_lem α = refl
+compare_step at_least α = refl
 compare_step same_place α = refl
 compare_step other_place α = refl
 
@@ -65,7 +65,7 @@ compare_level unequal d = refl
 compare_level less d = refl
 compare_level at_most d = refl
 compare_level greater d = refl
-compare_level at_least_lem d = refl
+compare_level at_least d = refl
 compare_level same_place d = refl
 compare_level other_place d = refl
 
@@ -75,7 +75,7 @@ compare_mark unequal i = refl
 compare_mark less i = refl
 compare_mark at_most i = refl
 compare_mark greater i = refl
-compare_mark at_least_lem i = refl
+compare_mark at_least i = refl
 compare_mark same_place i = refl
 compare_mark other_place i = refl
 

@@ -36,7 +36,7 @@ fn monadic(c: Symbol) -> bool
 }
 
 // '(' expr ')', the bracket being at i
-#[cycle(applied_bracketed_calls_expr_form_level_primary_term_variable)]
+#[cycle(expressions)]
 pub fn bracketed(
     s: &[Symbol],
     i: usize,
@@ -47,7 +47,7 @@ pub fn bracketed(
     requires opening { slice_index_or s.now i STOP ≡ LEFT }
     requires within { i < length s.now }
     requires room { used + 2 * length s.now ≤ length nodes.old + 2 * i }
-    ensures* { λ r. ⌜ MatchResult r (λ p. Made 0 (Expr 5) IsExpr (λ e r. token LEFT i ∷ of_expr e (key RIGHT ∷ r)) (Way (tok LEFT ∷ an_expr ∷ tok RIGHT ∷ []) depth s.now i) s.now i used nodes.old nodes.new p × (p.used + 2 * i < 2 * p.next + used)) (λ f. Refused (tok LEFT ∷ an_expr ∷ tok RIGHT ∷ []) depth s.now i f) ⌝ }
+    ensures { MatchResult result (λ p. Made 0 (Expr 5) IsExpr (λ e rest. token LEFT i ∷ of_expr e (key RIGHT ∷ rest)) (Way (tok LEFT ∷ an_expr ∷ tok RIGHT ∷ []) depth s.now i) s.now i used nodes.old nodes.new p × (p.used + 2 * i < 2 * p.next + used)) (λ f. Refused (tok LEFT ∷ an_expr ∷ tok RIGHT ∷ []) depth s.now i f) }
 {
     if depth == 0 {
         return Err(Fault::Deep(i));
@@ -65,7 +65,7 @@ pub fn bracketed(
 }
 
 // The further parts of a variable whose name is at i, and which was read up to `start`.
-#[cycle(applied_bracketed_calls_expr_form_level_primary_term_variable)]
+#[cycle(expressions)]
 pub fn variable(
     s: &[Symbol],
     i: usize,
@@ -107,7 +107,7 @@ pub fn variable(
 }
 
 // The further expressions of a call whose name is at i, its first expression having been read up to `at`, where a comma is.
-#[cycle(applied_bracketed_calls_expr_form_level_primary_term_variable)]
+#[cycle(expressions)]
 fn calls(
     s: &[Symbol],
     i: usize,
@@ -146,7 +146,7 @@ fn calls(
 }
 
 // A form whose name is at i, a bracket behind it.
-#[cycle(applied_bracketed_calls_expr_form_level_primary_term_variable)]
+#[cycle(expressions)]
 fn applied(
     s: &[Symbol],
     i: usize,
@@ -189,7 +189,7 @@ fn applied(
 }
 
 // A form whose name is at i.
-#[cycle(applied_bracketed_calls_expr_form_level_primary_term_variable)]
+#[cycle(expressions)]
 pub fn form(
     s: &[Symbol],
     i: usize,
@@ -214,7 +214,7 @@ pub fn form(
     variable(s, i, depth, nodes, used, at)
 }
 
-#[cycle(applied_bracketed_calls_expr_form_level_primary_term_variable)]
+#[cycle(expressions)]
 fn primary(
     s: &[Symbol],
     i: usize,
@@ -257,7 +257,7 @@ fn primary(
     }
 }
 
-#[cycle(applied_bracketed_calls_expr_form_level_primary_term_variable)]
+#[cycle(expressions)]
 fn term(
     s: &[Symbol],
     i: usize,
@@ -284,7 +284,7 @@ fn term(
 }
 
 // An expression of the level n.
-#[cycle(applied_bracketed_calls_expr_form_level_primary_term_variable)]
+#[cycle(expressions)]
 fn level(
     s: &[Symbol],
     i: usize,
@@ -314,7 +314,7 @@ fn level(
     Ok(at)
 }
 
-#[cycle(applied_bracketed_calls_expr_form_level_primary_term_variable)]
+#[cycle(expressions)]
 pub fn expr(
     s: &[Symbol],
     i: usize,

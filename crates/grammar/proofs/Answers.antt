@@ -1,8 +1,8 @@
 -- A text has one answer only. Assumes nothing.
-use Rattle.std.proofs.Common.{◌≡◌, ℕ, Bool, true, false, List, [], ◌∷◌, ◌++◌, length, sym, refl, ap, ◌∙◌, subst, append_assoc, append-nil, arith}
+use Rattle.std.proofs.Common.{◌≡◌, ℕ, List, [], ◌∷◌, ◌++◌, length, sym, refl, ap, ◌∙◌, subst, append_assoc, append-nil, arith}
 use Rattle.grammar.specs.Symbols.{Symbol}
 use Rattle.grammar.specs.Sentences.{Sentence, Viable, Shallow, Stops, Sinks, Answer, fine, bad, deep, Fine, Bad, Deep, Meaning, OneAnswer}
-use Rattle.grammar.specs.Machine.{parts, behind, run, a_module}
+use Rattle.grammar.specs.Machine.{run, a_module}
 use Rattle.grammar.proofs.Right.{run_right_lem, viable_less}
 
 -- two ways of cutting a word in two

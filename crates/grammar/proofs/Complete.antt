@@ -1,8 +1,8 @@
 -- Every module is read back from its items. Assumes nothing.
-use Rattle.std.proofs.Common.{◌≡◌, ℕ, zero, suc, Bool, true, false, cond, List, [], ◌∷◌, sym, refl, ap, ◌∙◌}
+use Rattle.std.proofs.Common.{◌≡◌, ℕ, List, [], ◌∷◌, refl, ap, ◌∙◌}
 use Rattle.grammar.specs.Symbols.{NAME, INTEGER, TEXT, AND, ARRAY, BYTE, DO, ELSE, ELSEIF, END, ENDBLOCK, ENDDATA, ENDPROC, INT, OR, REF, REP, THEN, LEFT, RIGHT, PLUS, MINUS, COMMA, SEMI, BECOMES}
-use Rattle.grammar.specs.Trees.{Token, token, symbol, key, Many, one, more, of_many, Opt, none, some, of_opt, of_name, of_names, Variable, name, element, component, Exprs, first, comma, of_expr, of_variable, Comparator, equal, unequal, less, at_most, greater, at_least_lem, same_place, other_place, spell_comparator, Comparison, compare, Subcondition, Condition, of_comparison, of_subcondition, of_condition, Mode, int, byte, ref_int, ref_byte, ref_record, ref_array, ref_array_brackets, Amode, simple, records, of_mode, of_amode, Fields, field, also, next, of_fields, plain, given, of_inits, Value, constant, signed, minus_signed, identifier, string, empty_list, list, Values, only, and, Entry, once, repeated, of_value, of_values, of_entry, Dec, nothing, variables, arrays, structures, of_dec, Local, local, of_local, Locals, no_locals, locals, of_locals, Destination, place, val, of_destination, Body, body, Sequence, single, sequel, Statement, dummy, block, assign, invoke, invoke_on, branch, branch_else, repeat, loop, return, return_with, Arms, when, elsewhen, of_body, of_sequence, of_statement, of_arms, Brick, store, procedure, of_brick, Moditem, blank, external_procs, external_store, record_mode, own, entry, of_moditem, Module, of_module}
-use Rattle.grammar.specs.Machine.{start, final, assigned, started, branched, inside, declares, enclose, returns, bare, to_array, refers, fielded, Setting, stored, inblock, Sort, unset, set, Initial, Declared, value, via, chained, initial, stored_name, listed, entered, exprs, ors, ands, statements, modes, entries, moditems, declareds, decs, Goal, tok, all, each, rest, ClosedOn, a_source, compared, arms_on, returned, a_body, dims, an_amode, maybe_mode_lem, maybe_modes_lem, TheFields, fields_on, a_further, maybe_fields_lem, given_on, chain, a_value, times_on, maybe_values, a_brick, an_expr, a_statement, a_mode, adds, Forest, Move, refuse, mapped, then, orelse, never, at_mode, at_all, just_name, a_module}
+use Rattle.grammar.specs.Trees.{Token, token, symbol, key, Many, one, more, of_many, Opt, none, some, of_opt, of_name, of_names, Variable, name, element, component, Exprs, first, comma, of_expr, of_variable, Comparator, equal, unequal, less, at_most, greater, at_least, same_place, other_place, spell_comparator, Comparison, compare, Subcondition, Condition, of_comparison, of_subcondition, of_condition, Mode, int, byte, ref_int, ref_byte, ref_record, ref_array, ref_array_brackets, Amode, simple, records, of_mode, of_amode, Fields, field, also, next, of_fields, plain, given, of_inits, Value, constant, signed, minus_signed, identifier, string, empty_list, list, Values, only, and, Entry, once, repeated, of_value, of_values, of_entry, Dec, nothing, variables, arrays, structures, of_dec, Local, local, of_local, Locals, no_locals, locals, of_locals, Destination, place, val, of_destination, Body, body, Sequence, single, sequel, Statement, dummy, block, assign, invoke, invoke_on, branch, branch_else, repeat, loop, return, return_with, Arms, when, elsewhen, of_body, of_sequence, of_statement, of_arms, Brick, store, procedure, of_brick, Moditem, blank, external_procs, external_store, record_mode, own, entry, of_moditem, Module, of_module}
+use Rattle.grammar.specs.Machine.{start, final, assigned, started, branched, inside, declares, enclose, returns, bare, to_array, refers, fielded, Setting, stored, inblock, Sort, unset, set, Initial, Declared, value, via, chained, initial, stored_name, listed, entered, exprs, ors, ands, statements, modes, entries, moditems, declareds, decs, Goal, tok, all, each, rest, closed_on, a_source, compared, arms_on, returned, a_body, dims, an_amode, maybe_mode, maybe_modes, the_fields, fields_on, a_further, maybe_fields, given_on, chain, a_value, times_on, maybe_values, a_brick, an_expr, a_statement, a_mode, adds, Forest, Move, refuse, mapped, then, orelse, never, at_mode, at_all, just_name, a_module}
 use Rattle.grammar.proofs.Spell.{of_initial, of_declared}
 use Rattle.grammar.proofs.Read.{read, Off, Like, Chains, off, like, chains, all_is, ors_is}
 use Rattle.grammar.proofs.Expressions.{Ends, index_at, exprs_read, expr_read}
@@ -14,13 +14,13 @@ compare_ends unequal v = ((refl, refl, refl), refl)
 compare_ends less v = ((refl, refl, refl), refl)
 compare_ends at_most v = ((refl, refl, refl), refl)
 compare_ends greater v = ((refl, refl, refl), refl)
-compare_ends at_least_lem v = ((refl, refl, refl), refl)
+compare_ends at_least v = ((refl, refl, refl), refl)
 compare_ends same_place v = ((refl, refl, refl), refl)
 compare_ends other_place v = ((refl, refl, refl), refl)
 
 -- What may not stand behind: a statement; a declared name with its value; a declaration.
 abbrev Calm : List Token → Type 0
-Calm v = Off a_statement dummy v × Ends v × Off (ClosedOn start) none v × Off returned none v
+Calm v = Off a_statement dummy v × Ends v × Off (closed_on start) none v × Off returned none v
 
 abbrev Set : Sort → List Token → Type 0
 Set unset v = Unit {0}
@@ -96,7 +96,7 @@ semi_set (set inblock) w = ((refl, ((refl, refl, refl), refl)), refl)
 abbrev Settled : List Token → Type 0
 Settled v = Off (each moditems) blank v × Off (rest (declareds unset)) [] v
 
-name_mode : (ns : Many ℕ) (v : List Token) → Off maybe_mode_lem none (of_names ns v)
+name_mode : (ns : Many ℕ) (v : List Token) → Off maybe_mode none (of_names ns v)
 name_mode (one n) v = refl
 name_mode (more ns n) v = name_mode ns _
 
@@ -112,7 +112,7 @@ module _ {R : Type 0} where
   compare_at less α v k = refl
   compare_at at_most α v k = refl
   compare_at greater α v k = refl
-  compare_at at_least_lem α v k = refl
+  compare_at at_least α v k = refl
   compare_at same_place α v k = refl
   compare_at other_place α v k = refl
 
@@ -165,33 +165,33 @@ module _ {R : Type 0} where
   modes_read (one m) α v k = all_is modes α (of_mode m v) k ∙ mode_read m (rest modes ∷ α) v _
   modes_read (more ms m) α v k = modes_read ms α (key COMMA ∷ of_mode m v) k ∙ mode_read m (rest modes ∷ α) v _
 
-  modes_there : (ms : Many Mode) (α : List Goal) (v : List Token) (k : Forest (maybe_modes_lem ∷ α) → R) → read (maybe_modes_lem ∷ α) (of_many of_mode COMMA ms v) k ≡ read (all modes ∷ α) (of_many of_mode COMMA ms v) (λ g. k (some g.0, g.1))
-  modes_there (one m) α v k = by_mode (maybe_modes_lem ∷ α) (all modes ∷ α) k (λ g. k (some g.0, g.1)) (λ i w. refl) (λ i w. refl) (λ i w. refl) m v
+  modes_there : (ms : Many Mode) (α : List Goal) (v : List Token) (k : Forest (maybe_modes ∷ α) → R) → read (maybe_modes ∷ α) (of_many of_mode COMMA ms v) k ≡ read (all modes ∷ α) (of_many of_mode COMMA ms v) (λ g. k (some g.0, g.1))
+  modes_there (one m) α v k = by_mode (maybe_modes ∷ α) (all modes ∷ α) k (λ g. k (some g.0, g.1)) (λ i w. refl) (λ i w. refl) (λ i w. refl) m v
   modes_there (more ms m) α v k = modes_there ms α (key COMMA ∷ of_mode m v) k
 
-  maybe_modes_read : (o : Opt (Many Mode)) (α : List Goal) (v : List Token) (k : Forest (maybe_modes_lem ∷ tok RIGHT ∷ α) → R) → read (maybe_modes_lem ∷ tok RIGHT ∷ α) (of_opt (of_many of_mode COMMA) o (key RIGHT ∷ v)) k ≡ read α v (λ f. k (o, (0, f)))
+  maybe_modes_read : (o : Opt (Many Mode)) (α : List Goal) (v : List Token) (k : Forest (maybe_modes ∷ tok RIGHT ∷ α) → R) → read (maybe_modes ∷ tok RIGHT ∷ α) (of_opt (of_many of_mode COMMA) o (key RIGHT ∷ v)) k ≡ read α v (λ f. k (o, (0, f)))
   maybe_modes_read none α v k = refl
   maybe_modes_read (some ms) α v k = modes_there ms (tok RIGHT ∷ α) (key RIGHT ∷ v) k ∙ modes_read ms (tok RIGHT ∷ α) (key RIGHT ∷ v) (λ g. k (some g.0, g.1))
 
-  maybe_mode_read : (o : Opt Mode) (α : List Goal) (v : List Token) (k : Forest (maybe_mode_lem ∷ α) → R) → Off maybe_mode_lem none v → read (maybe_mode_lem ∷ α) (of_opt of_mode o v) k ≡ read α v (λ f. k (o, f))
-  maybe_mode_read none α v k h = off maybe_mode_lem none α v k h
-  maybe_mode_read (some m) α v k h = by_mode (maybe_mode_lem ∷ α) (a_mode ∷ α) k (λ g. k (some g.0, g.1)) (λ i w. refl) (λ i w. refl) (λ i w. refl) m v ∙ mode_read m α v (λ g. k (some g.0, g.1))
+  maybe_mode_read : (o : Opt Mode) (α : List Goal) (v : List Token) (k : Forest (maybe_mode ∷ α) → R) → Off maybe_mode none v → read (maybe_mode ∷ α) (of_opt of_mode o v) k ≡ read α v (λ f. k (o, f))
+  maybe_mode_read none α v k h = off maybe_mode none α v k h
+  maybe_mode_read (some m) α v k h = by_mode (maybe_mode ∷ α) (a_mode ∷ α) k (λ g. k (some g.0, g.1)) (λ i w. refl) (λ i w. refl) (λ i w. refl) m v ∙ mode_read m α v (λ g. k (some g.0, g.1))
 
   -- components and parameters
-  fields_read : (fs : Fields) (α : List Goal) (v : List Token) (k : Forest (TheFields ∷ α) → R) → read (TheFields ∷ α) (of_fields fs v) k ≡ read (fields_on ∷ α) v (λ g. k (fielded fs g.0, g.1))
-  fields_read (field m n) α v k = by_mode (TheFields ∷ α) (a_mode ∷ tok NAME ∷ fields_on ∷ α) k (λ g. k (fielded (field g.0 g.1.0) g.1.1.0, g.1.1.1)) (λ i w. refl) (λ i w. refl) (λ i w. refl) m (token NAME n ∷ v) ∙ mode_read m (tok NAME ∷ fields_on ∷ α) (token NAME n ∷ v) (λ g. k (fielded (field g.0 g.1.0) g.1.1.0, g.1.1.1))
+  fields_read : (fs : Fields) (α : List Goal) (v : List Token) (k : Forest (the_fields ∷ α) → R) → read (the_fields ∷ α) (of_fields fs v) k ≡ read (fields_on ∷ α) v (λ g. k (fielded fs g.0, g.1))
+  fields_read (field m n) α v k = by_mode (the_fields ∷ α) (a_mode ∷ tok NAME ∷ fields_on ∷ α) k (λ g. k (fielded (field g.0 g.1.0) g.1.1.0, g.1.1.1)) (λ i w. refl) (λ i w. refl) (λ i w. refl) m (token NAME n ∷ v) ∙ mode_read m (tok NAME ∷ fields_on ∷ α) (token NAME n ∷ v) (λ g. k (fielded (field g.0 g.1.0) g.1.1.0, g.1.1.1))
   fields_read (also fs n) α v k = fields_read fs α (key COMMA ∷ token NAME n ∷ v) k
   fields_read (next fs m n) α v k =
       fields_read fs α (key COMMA ∷ of_mode m (token NAME n ∷ v)) k
       ∙ by_mode (a_further ∷ α) (a_mode ∷ tok NAME ∷ fields_on ∷ α) (λ g. k (fielded fs (g.0.0 ∷ g.0.1), g.1)) (λ g. k (fielded (next fs g.0 g.1.0) g.1.1.0, g.1.1.1)) (λ i w. refl) (λ i w. refl) (λ i w. refl) m (token NAME n ∷ v)
       ∙ mode_read m (tok NAME ∷ fields_on ∷ α) (token NAME n ∷ v) (λ g. k (fielded (next fs g.0 g.1.0) g.1.1.0, g.1.1.1))
 
-  fields_there : (fs : Fields) (α : List Goal) (v : List Token) (k : Forest (maybe_fields_lem ∷ α) → R) → read (maybe_fields_lem ∷ α) (of_fields fs v) k ≡ read (TheFields ∷ α) (of_fields fs v) (λ g. k (some g.0, g.1))
-  fields_there (field m n) α v k = by_mode (maybe_fields_lem ∷ α) (TheFields ∷ α) k (λ g. k (some g.0, g.1)) (λ i w. refl) (λ i w. refl) (λ i w. refl) m (token NAME n ∷ v)
+  fields_there : (fs : Fields) (α : List Goal) (v : List Token) (k : Forest (maybe_fields ∷ α) → R) → read (maybe_fields ∷ α) (of_fields fs v) k ≡ read (the_fields ∷ α) (of_fields fs v) (λ g. k (some g.0, g.1))
+  fields_there (field m n) α v k = by_mode (maybe_fields ∷ α) (the_fields ∷ α) k (λ g. k (some g.0, g.1)) (λ i w. refl) (λ i w. refl) (λ i w. refl) m (token NAME n ∷ v)
   fields_there (also fs n) α v k = fields_there fs α (key COMMA ∷ token NAME n ∷ v) k
   fields_there (next fs m n) α v k = fields_there fs α (key COMMA ∷ of_mode m (token NAME n ∷ v)) k
 
-  maybe_fields_read : (o : Opt Fields) (α : List Goal) (v : List Token) (k : Forest (maybe_fields_lem ∷ tok RIGHT ∷ α) → R) → read (maybe_fields_lem ∷ tok RIGHT ∷ α) (of_opt of_fields o (key RIGHT ∷ v)) k ≡ read α v (λ f. k (o, (0, f)))
+  maybe_fields_read : (o : Opt Fields) (α : List Goal) (v : List Token) (k : Forest (maybe_fields ∷ tok RIGHT ∷ α) → R) → read (maybe_fields ∷ tok RIGHT ∷ α) (of_opt of_fields o (key RIGHT ∷ v)) k ≡ read α v (λ f. k (o, (0, f)))
   maybe_fields_read none α v k = refl
   maybe_fields_read (some fs) α v k = fields_there fs (tok RIGHT ∷ α) (key RIGHT ∷ v) k ∙ fields_read fs (tok RIGHT ∷ α) (key RIGHT ∷ v) (λ g. k (some g.0, g.1))
 
@@ -294,8 +294,8 @@ module _ {R : Type 0} where
   locals_read (locals ls l) α w k = locals_read ls α (of_local l (key SEMI ∷ w)) k ∙ local_read l α w (λ g. k (enclose ls g.0, g.1))
 
   -- a procedure statement
-  invoke_read : (es : Exprs) (n i : ℕ) (α : List Goal) (v : List Token) (k : Forest (a_statement ∷ α) → R) → Off (ClosedOn start) none v → read (a_statement ∷ α) (of_statement (invoke_on n i es) v) k ≡ read α v (λ f. k (invoke_on n i es, f))
-  invoke_read (first e) n i α v k h = index_at (just_name n) start α i e v k (expr_read e) ∙ off (ClosedOn start) none α v (λ g. k (started n i e g.0, g.1)) h
+  invoke_read : (es : Exprs) (n i : ℕ) (α : List Goal) (v : List Token) (k : Forest (a_statement ∷ α) → R) → Off (closed_on start) none v → read (a_statement ∷ α) (of_statement (invoke_on n i es) v) k ≡ read α v (λ f. k (invoke_on n i es, f))
+  invoke_read (first e) n i α v k h = index_at (just_name n) start α i e v k (expr_read e) ∙ off (closed_on start) none α v (λ g. k (started n i e g.0, g.1)) h
   invoke_read (comma es e) n i α v k h = exprs_read es start n i α (of_expr e (key RIGHT ∷ v)) k ∙ expr_read e (rest exprs ∷ tok RIGHT ∷ α) (key RIGHT ∷ v) _ ((refl, refl, refl), refl)
 
   -- statements
@@ -345,14 +345,14 @@ module _ {R : Type 0} where
   brick_read : (b : Brick) (α : List Goal) (v : List Token) (k : Forest (a_brick ∷ α) → R) → read (a_brick ∷ α) (of_brick b v) k ≡ read α v (λ f. k (b, f))
   brick_read (store n ds) α v k = decs_read (set stored) ds (tok ENDDATA ∷ α) (key ENDDATA ∷ v) (λ g. k (store n g.0, g.1.1)) (refl, refl) refl
   brick_read (procedure n i ps m b e) α v k =
-      maybe_fields_read ps (maybe_mode_lem ∷ tok SEMI ∷ a_body ∷ tok ENDPROC ∷ α) (of_opt of_mode m (key SEMI ∷ of_body b (token ENDPROC e ∷ v))) (λ g. k (procedure n i g.0 g.1.1.0 (enclose no_locals g.1.1.1.1.0) g.1.1.1.1.1.0, g.1.1.1.1.1.1))
+      maybe_fields_read ps (maybe_mode ∷ tok SEMI ∷ a_body ∷ tok ENDPROC ∷ α) (of_opt of_mode m (key SEMI ∷ of_body b (token ENDPROC e ∷ v))) (λ g. k (procedure n i g.0 g.1.1.0 (enclose no_locals g.1.1.1.1.0) g.1.1.1.1.1.0, g.1.1.1.1.1.1))
       ∙ maybe_mode_read m (tok SEMI ∷ a_body ∷ tok ENDPROC ∷ α) (key SEMI ∷ of_body b (token ENDPROC e ∷ v)) (λ g. k (procedure n i ps g.0 (enclose no_locals g.1.1.0) g.1.1.1.0, g.1.1.1.1)) refl
       ∙ body_read b (tok ENDPROC ∷ α) (token ENDPROC e ∷ v) (λ g. k (procedure n i ps m g.0 g.1.0, g.1.1)) ((refl, ((refl, refl, refl), refl), refl, refl), refl) refl
 
   moditem_read : (m : Moditem) (α : List Goal) (v : List Token) (k : Forest (each moditems ∷ α) → R) → Settled v → read (each moditems ∷ α) (of_moditem m v) k ≡ read α v (λ f. k (m, f))
   moditem_read blank α v k h = off (each moditems) blank α v k h.0
   moditem_read (external_procs i ms m ns) α v k h =
-      maybe_modes_read ms (maybe_mode_lem ∷ all (declareds unset) ∷ α) (of_opt of_mode m (of_names ns v)) (λ g. k (external_procs i g.0 g.1.1.0 g.1.1.1.0, g.1.1.1.1))
+      maybe_modes_read ms (maybe_mode ∷ all (declareds unset) ∷ α) (of_opt of_mode m (of_names ns v)) (λ g. k (external_procs i g.0 g.1.1.0 g.1.1.1.0, g.1.1.1.1))
       ∙ maybe_mode_read m (all (declareds unset) ∷ α) (of_names ns v) (λ g. k (external_procs i ms g.0 g.1.0, g.1.1)) (name_mode ns v)
       ∙ declareds_read unset ns α v (λ g. k (external_procs i ms m g.0, g.1)) (tt, h.1)
   moditem_read (external_store n ds) α v k h = decs_read unset ds (tok ENDDATA ∷ α) (key ENDDATA ∷ v) (λ g. k (external_store n g.0, g.1.1)) (tt, refl) refl

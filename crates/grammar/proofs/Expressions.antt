@@ -1,8 +1,8 @@
 -- Every expression is read back from its items. Assumes nothing.
-use Rattle.std.proofs.Common.{◌≡◌, ℕ, zero, suc, Bool, true, false, cond, List, [], ◌∷◌, sym, refl, ap, ◌∙◌}
+use Rattle.std.proofs.Common.{◌≡◌, ℕ, Bool, false, cond, List, [], ◌∷◌, sym, refl, ap, ◌∙◌}
 use Rattle.grammar.specs.Symbols.{NAME, INTEGER, TEXT, LEFT, RIGHT, COMMA, DOT, BECOMES, same, Symbol}
 use Rattle.grammar.specs.Trees.{Token, token, symbol, key, none, some, Dyadic, times, divide, modulo, land, lor, nev, plus, minus, spell, Monadic, positive, negative, absolute, complement, narrow, size, spell_monadic, Expr, term, up, dyadic, Term, monadic, primary, Primary, integer, text, variable, call, call_on, paren, Variable, name, element, component, Exprs, first, comma, of_expr, of_term, of_primary, of_variable, of_exprs}
-use Rattle.grammar.specs.Machine.{Flat, here, below, link, State, close, fresh, put, folds, Stand, inner, start, right, plug, argument, goes, Result, finish, gather, finish_calls, finish_closed, finish_arguments, finish_named, exprs, Goal, tok, rest, links_on, a_term, a_primary, named, arguments, argued, ClosedOn, parts, an_expr, Tree, Forest, Move, shift, on, mapped, behind, pull, Seen, just_name, one_index, longer, var_of, indexed, seen, next_goal}
+use Rattle.grammar.specs.Machine.{Flat, here, below, link, State, close, fresh, put, folds, Stand, inner, start, right, plug, argument, goes, Result, finish, gather, finish_calls, finish_closed, finish_arguments, finish_named, exprs, Goal, tok, rest, links_on, a_term, a_primary, named, arguments, argued, closed_on, parts, an_expr, Tree, Forest, Move, shift, on, mapped, behind, pull, Seen, just_name, one_index, longer, var_of, indexed, seen, next_goal}
 use Rattle.grammar.proofs.Spell.{spell_flat}
 use Rattle.grammar.proofs.Read.{read, Off, Chains, off, chains, expr_is}
 
@@ -171,8 +171,8 @@ module _ {R : Type 0} where
   pub end_inner : (s : Seen) (α : List Goal) (v : List Token) (k : Forest (a_primary ∷ α) → R) → Stays v → read (next_goal s inner ∷ α) v (λ g. k (result s inner g.0, g.1)) ≡ read α v (λ f. k (variable (var_of s), f))
   end_inner (just_name n) α [] k h = off (named inner) (goes ([], tt)) α [] (λ g. k (finish_named inner n g.0, g.1)) refl
   end_inner (just_name n) α (u ∷ w) k h = off (named inner) (goes ([], tt)) α (u ∷ w) (λ g. k (finish_named inner n g.0, g.1)) (on_not (symbol u) LEFT _ _ _ h.0 ∙ ap (mapped goes) (on_not (symbol u) DOT _ _ _ h.1))
-  end_inner (one_index n i e) α [] k h = off (ClosedOn inner) ([], tt) α [] (λ g. k (finish_closed inner n i e g.0, g.1)) refl
-  end_inner (one_index n i e) α (u ∷ w) k h = off (ClosedOn inner) ([], tt) α (u ∷ w) (λ g. k (finish_closed inner n i e g.0, g.1)) (on_not (symbol u) LEFT _ _ _ h.0 ∙ on_not (symbol u) DOT _ _ _ h.1)
+  end_inner (one_index n i e) α [] k h = off (closed_on inner) ([], tt) α [] (λ g. k (finish_closed inner n i e g.0, g.1)) refl
+  end_inner (one_index n i e) α (u ∷ w) k h = off (closed_on inner) ([], tt) α (u ∷ w) (λ g. k (finish_closed inner n i e g.0, g.1)) (on_not (symbol u) LEFT _ _ _ h.0 ∙ on_not (symbol u) DOT _ _ _ h.1)
   end_inner (longer x) α [] k h = off (parts inner) ([], tt) α [] (λ g. k (finish inner (plug x g.0.0) g.0.1, g.1)) refl
   end_inner (longer x) α (u ∷ w) k h = off (parts inner) ([], tt) α (u ∷ w) (λ g. k (finish inner (plug x g.0.0) g.0.1, g.1)) (on_not (symbol u) LEFT _ _ _ h.0 ∙ on_not (symbol u) DOT _ _ _ h.1)
 

@@ -1,5 +1,5 @@
 -- Reading items into trees, what is done with the trees being handed in. Assumes nothing.
-use Rattle.std.proofs.Common.{◌≡◌, ℕ, zero, suc, Bool, true, false, cond, List, [], ◌∷◌, sym, refl, ap, ◌∙◌}
+use Rattle.std.proofs.Common.{◌≡◌, ℕ, List, [], ◌∷◌, sym, refl, ap, ◌∙◌}
 use Rattle.grammar.specs.Symbols.{Symbol}
 use Rattle.grammar.specs.Trees.{Token, symbol, number, Opt, none, some}
 use Rattle.grammar.specs.Sentences.{symbols}

@@ -1,9 +1,9 @@
 -- What the machine answers is right. Assumes nothing.
-use Rattle.std.proofs.Common.{◌≡◌, ℕ, zero, suc, ◌+◌, Bool, true, false, cond, List, [], ◌∷◌, ◌++◌, length, sym, refl, ap, ◌∙◌, subst, append_assoc, append-nil, arith}
+use Rattle.std.proofs.Common.{◌≡◌, ℕ, zero, suc, ◌+◌, Bool, true, false, cond, List, [], ◌∷◌, ◌++◌, length, sym, refl, ap, ◌∙◌, subst, append_assoc, arith}
 use Rattle.grammar.specs.Symbols.{BLOCK, DO, IF, LEFT, same, same_true, among, Symbol}
-use Rattle.grammar.specs.Trees.{Token, mark, Opt, none, some, place, Module, of_module}
+use Rattle.grammar.specs.Trees.{Token, mark, Opt, none, some, Module, of_module}
 use Rattle.grammar.specs.Sentences.{symbols, items, Made, Sentence, Viable, count, opens, closes, Full, Shallow, Stops, Sinks, Answer, fine, bad, deep, Meaning, OneTree, MadeSentence, Unique, NothingAfter}
-use Rattle.grammar.specs.Machine.{Goal, parts, Forest, behind, Left, step, done, onto_stack, step_to, is_some, may_end, onward, accepts, follows, fewer, level, end, go, run, a_module, RunRight, ViableFronts, Accepted}
+use Rattle.grammar.specs.Machine.{Goal, Forest, Left, step, done, onto_stack, step_to, is_some, may_end, onward, accepts, follows, fewer, level, end, go, run, a_module, RunRight, ViableFronts, Accepted}
 use Rattle.grammar.proofs.Spell.{of_forest}
 use Rattle.grammar.proofs.Sound.{Backs, back_step, Blanks, blank_forest, least_forest}
 use Rattle.grammar.proofs.Read.{read, read_accepts}

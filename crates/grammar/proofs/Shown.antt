@@ -1,5 +1,5 @@
 -- The examples hold. Assumes nothing.
-use Rattle.std.proofs.Common.{◌≡◌, ℕ, List, [], ◌∷◌, ◌++◌, length, refl, subst}
+use Rattle.std.proofs.Common.{◌≡◌, List, [], ◌++◌, length, refl, subst}
 use Rattle.grammar.specs.Symbols.{Symbol}
 use Rattle.grammar.specs.Sentences.{fine, bad, Fine, Meaning}
 use Rattle.grammar.specs.Machine.{run, a_module}

@@ -2,7 +2,7 @@
 use Rattle.std.proofs.Common.{◌≡◌, ℕ, Bool, true, false, cond, List, [], ◌∷◌, sym, refl, ap, ◌∙◌, subst}
 use Rattle.grammar.specs.Symbols.{NAME, INTEGER, TEXT, ABS, ARRAY, BLOCK, BYTE, DATA, DO, ELSE, ELSEIF, END, ENT, EXT, IF, INT, LAND, LENGTH, LOR, MOD, MODE, NEV, NOT, PROC, REF, RETURN, TO, VAL, WHILE, LEFT, RIGHT, STAR, PLUS, MINUS, COMMA, DOT, SEMI, LESS, EQUAL, MORE, HASH, BECOMES, DIVIDE, ATMOST, ATLEAST, IS, ISNT, same, same_true, Symbol}
 use Rattle.grammar.specs.Trees.{Token, token, mark, key, Spelling, one, of_many, Opt, none, some, of_opt, Expr, primary, integer, name, of_expr, of_term, of_primary, equal, compare, of_comparison, int, simple, records, of_mode, of_amode, field, of_fields, plain, constant, once, of_value, of_values, of_entry, nothing, no_locals, val, single, dummy, when, of_sequence, of_statement, store, of_brick, blank, own, of_moditem}
-use Rattle.grammar.specs.Machine.{arrange, Stand, inner, start, right, plug, final, links, End, Rest, Closed, shut, no_argument, argument, called, goes, ends, inside, bare, to_int, alike, Setting, stored, inblock, Sort, unset, set, Initial, value, uses, entered, stores, Repetition, exprs, ors, ands, statements, modes, entries, moditems, declareds, decs, Goal, tok, all, each, rest, links_on, a_term, a_primary, named, arguments, argued, ClosedOn, parts, a_source, compared, arms_on, returned, a_body, a_target, dims, an_amode, maybe_mode_lem, maybe_modes_lem, TheFields, fields_on, a_further, maybe_fields_lem, given_on, chain, linked, a_value, times_on, maybe_values, an_external, a_brick, separator, Single, begun, Tree, Forest, Move, shift, skip, refuse, on, mapped, then, orelse, never, followed, optional, at_links, at_primary, at_term, at_expr, at_end, no_parts, at_dots, at_parts, at_named, behind, pull, at_argued, at_arguments, at_closed, at_source, at_comparator, at_comparison, at_mode, at_amode, at_dims, at_target, at_fields, at_fields_on, at_further, at_value, at_times, at_entry, at_declared, at_given, at_chain, at_linked, at_dec, at_statement, at_arms, at_returned, at_brick, at_external, at_moditem, at_rest, at_whole, at_each, at_all, at_body, move, void_each, map_opt, void_closed, void, Left, taken, step, pair, done}
+use Rattle.grammar.specs.Machine.{arrange, Stand, inner, start, right, plug, final, links, End, Rest, Closed, shut, no_argument, argument, called, goes, ends, inside, bare, to_int, alike, Setting, stored, inblock, Sort, unset, set, Initial, value, uses, entered, stores, Repetition, exprs, ors, ands, statements, modes, entries, moditems, declareds, decs, Goal, tok, all, each, rest, links_on, a_term, a_primary, named, arguments, argued, closed_on, parts, a_source, compared, arms_on, returned, a_body, a_target, dims, an_amode, maybe_mode, maybe_modes, the_fields, fields_on, a_further, maybe_fields, given_on, chain, linked, a_value, times_on, maybe_values, an_external, a_brick, separator, Single, begun, Tree, Forest, Move, shift, skip, refuse, on, mapped, then, orelse, never, followed, optional, at_links, at_primary, at_term, at_expr, at_end, no_parts, at_dots, at_parts, at_named, behind, pull, at_argued, at_arguments, at_closed, at_source, at_comparator, at_comparison, at_mode, at_amode, at_dims, at_target, at_fields, at_fields_on, at_further, at_value, at_times, at_entry, at_declared, at_given, at_chain, at_linked, at_dec, at_statement, at_arms, at_returned, at_brick, at_external, at_moditem, at_rest, at_whole, at_each, at_all, at_body, move, void_each, map_opt, void_closed, void, Left, taken, step, pair, done}
 use Rattle.grammar.proofs.Spell.{of_links, arrange_of, of_source, of_end, of_rest, of_ending, of_closed, of_more_exprs, assigned_of, val_of, of_argued, of_arguments, of_named, named_of, of_others, branched_of, of_inside, enclose_of, of_returned, returns_of, of_dims, of_target, refers_of, of_furthers, fielded_of, of_initial, of_declared, of_chain, of_given, initial_of, stored_name_of, of_linked, block_name_of, of_times, entered_of, listed_of, of_external, externally_of, of_single, of_whole, of_more, begun_of, repeats_of, of_goal, of_forest}
 
 -- What is made of trees for what is left has the symbol's item in front.
@@ -288,7 +288,7 @@ back a_primary c = back_primary c
 back (named w) c = back_named w c
 back (arguments w) c = back_arguments w c
 back (argued w) c = back_argued w c
-back (ClosedOn w) c = back_closed w c
+back (closed_on w) c = back_closed w c
 back (parts w) c = back_parts w c
 back a_source c = back_source c
 back compared c = back_comparator c
@@ -298,12 +298,12 @@ back a_body c = back_body c
 back a_target c = back_target c
 back dims c = back_dims c
 back an_amode c = back_amode c
-back maybe_mode_lem c = back_optional of_mode c (at_mode c) (back_mode c)
-back maybe_modes_lem c = back_optional (of_many of_mode COMMA) c (at_all modes c) (back_all modes c)
-back TheFields c = back_fields c
+back maybe_mode c = back_optional of_mode c (at_mode c) (back_mode c)
+back maybe_modes c = back_optional (of_many of_mode COMMA) c (at_all modes c) (back_all modes c)
+back the_fields c = back_fields c
 back fields_on c = back_fields_on c
 back a_further c = back_further c
-back maybe_fields_lem c = back_optional of_fields c (at_fields c) (back_fields c)
+back maybe_fields c = back_optional of_fields c (at_fields c) (back_fields c)
 back (given_on v) c = back_given v c
 back (chain v) c = back_chain v c
 back linked c = back_linked c
@@ -358,7 +358,7 @@ blank_parts inner = λ r. refl
 blank_parts start = tt
 blank_parts right = λ r. refl
 
-blank_closed : (w : Stand) → Blank (ClosedOn w) (void_closed w)
+blank_closed : (w : Stand) → Blank (closed_on w) (void_closed w)
 blank_closed inner = λ r. refl
 blank_closed start = λ r. refl
 blank_closed right = λ r. refl
@@ -374,7 +374,7 @@ blank_goal a_primary = tt
 blank_goal (named w) = blank_named w
 blank_goal (arguments w) = tt
 blank_goal (argued w) = tt
-blank_goal (ClosedOn w) = blank_closed w
+blank_goal (closed_on w) = blank_closed w
 blank_goal (parts w) = blank_parts w
 blank_goal a_source = tt
 blank_goal compared = tt
@@ -384,12 +384,12 @@ blank_goal a_body = λ r. refl
 blank_goal a_target = tt
 blank_goal dims = tt
 blank_goal an_amode = tt
-blank_goal maybe_mode_lem = λ r. refl
-blank_goal maybe_modes_lem = λ r. refl
-blank_goal TheFields = tt
+blank_goal maybe_mode = λ r. refl
+blank_goal maybe_modes = λ r. refl
+blank_goal the_fields = tt
 blank_goal fields_on = λ r. refl
 blank_goal a_further = tt
-blank_goal maybe_fields_lem = λ r. refl
+blank_goal maybe_fields = λ r. refl
 blank_goal (given_on v) = λ r. refl
 blank_goal (chain v) = tt
 blank_goal linked = λ r. refl
@@ -458,7 +458,7 @@ least a_primary = integer 0
 least (named w) = called 0 (no_argument (least_rest w))
 least (arguments w) = no_argument (least_rest w)
 least (argued w) = shut (least_closed w)
-least (ClosedOn w) = least_closed w
+least (closed_on w) = least_closed w
 least (parts w) = ([], least_end w)
 least a_source = final least_expr
 least compared = (equal, least_expr)
@@ -468,12 +468,12 @@ least a_body = inside (single dummy)
 least a_target = to_int
 least dims = bare (records 0)
 least an_amode = records 0
-least maybe_mode_lem = none
-least maybe_modes_lem = none
-least TheFields = field int 0
+least maybe_mode = none
+least maybe_modes = none
+least the_fields = field int 0
 least fields_on = []
 least a_further = (alike 0, [])
-least maybe_fields_lem = none
+least maybe_fields = none
 least (given_on v) = none
 least (chain v) = value (least_initial v)
 least linked = uses (goes ([], tt)) []

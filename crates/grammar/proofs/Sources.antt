@@ -1,8 +1,8 @@
 -- Assignments are read back from their items, and expressions where another goal begins with them. Assumes nothing.
-use Rattle.std.proofs.Common.{◌≡◌, ℕ, zero, suc, Bool, true, false, cond, List, [], ◌∷◌, sym, refl, ap, ◌∙◌}
+use Rattle.std.proofs.Common.{◌≡◌, ℕ, false, List, [], ◌∷◌, refl, ap, ◌∙◌}
 use Rattle.grammar.specs.Symbols.{NAME, INTEGER, TEXT, LEFT, RIGHT, DOT, BECOMES}
 use Rattle.grammar.specs.Trees.{Token, token, symbol, key, Many, one, more, of_many, Monadic, positive, negative, absolute, complement, narrow, size, spell_monadic, Expr, Term, monadic, primary, integer, text, variable, call, call_on, paren, Variable, name, element, component, Exprs, of_expr, of_term, of_primary, of_variable, Destination, place, val, of_destination}
-use Rattle.grammar.specs.Machine.{close, folds, arrange, inner, start, right, plug, Source, final, onto, links, goes, assigned, finish, finish_closed, finish_named, inblock, value, uses, block_name, exprs, Goal, tok, rest, links_on, a_term, named, ClosedOn, parts, a_source, chain, linked, an_expr, a_statement, Tree, Forest, Move, shift, skip, refuse, mapped, at_links, no_parts, Seen, just_name, one_index, longer, var_of, seen, next_goal}
+use Rattle.grammar.specs.Machine.{close, folds, arrange, inner, start, right, plug, Source, final, onto, links, goes, assigned, finish, finish_closed, finish_named, inblock, value, uses, block_name, exprs, Goal, tok, rest, links_on, a_term, named, closed_on, parts, a_source, chain, linked, an_expr, a_statement, Tree, Forest, Move, shift, skip, refuse, mapped, at_links, no_parts, Seen, just_name, one_index, longer, var_of, seen, next_goal}
 use Rattle.grammar.proofs.Read.{read, Chains, off, like, chains}
 use Rattle.grammar.proofs.Expressions.{head, st, closed_st, Stays, Ends, on_not, heads, seen_var, result, end_inner, spine, term_read, variable_read, exprs_read, expr_read}
 
@@ -61,8 +61,8 @@ module _ {R : Type 0} where
   end_right : (s : Seen) (α : List Goal) (v : List Token) (k : Forest (a_source ∷ α) → R) → Stays v → read (next_goal s right ∷ α) v (λ g. k (result s right g.0, g.1)) ≡ read (links_on ∷ α) v (λ g. k (final (arrange (primary (variable (var_of s))) g.0), g.1))
   end_right (just_name n) α [] k h = like (named right) links_on (λ ls. goes ([], links ls)) α [] (λ g. k (finish_named right n g.0, g.1)) refl
   end_right (just_name n) α (u ∷ w) k h = like (named right) links_on (λ ls. goes ([], links ls)) α (u ∷ w) (λ g. k (finish_named right n g.0, g.1)) (on_not (symbol u) LEFT _ _ _ h.0 ∙ ap (mapped goes) (on_not (symbol u) DOT _ _ _ h.1 ∙ ap (mapped no_parts) (on_not (symbol u) BECOMES _ _ _ h.2) ∙ mapped_twice no_parts links (at_links (symbol u))) ∙ mapped_twice goes (λ ls. ([], links ls)) (at_links (symbol u)))
-  end_right (one_index n i e) α [] k h = like (ClosedOn right) links_on (λ ls. ([], links ls)) α [] (λ g. k (finish_closed right n i e g.0, g.1)) refl
-  end_right (one_index n i e) α (u ∷ w) k h = like (ClosedOn right) links_on (λ ls. ([], links ls)) α (u ∷ w) (λ g. k (finish_closed right n i e g.0, g.1)) (on_not (symbol u) LEFT _ _ _ h.0 ∙ on_not (symbol u) DOT _ _ _ h.1 ∙ ap (mapped no_parts) (on_not (symbol u) BECOMES _ _ _ h.2) ∙ mapped_twice no_parts links (at_links (symbol u)))
+  end_right (one_index n i e) α [] k h = like (closed_on right) links_on (λ ls. ([], links ls)) α [] (λ g. k (finish_closed right n i e g.0, g.1)) refl
+  end_right (one_index n i e) α (u ∷ w) k h = like (closed_on right) links_on (λ ls. ([], links ls)) α (u ∷ w) (λ g. k (finish_closed right n i e g.0, g.1)) (on_not (symbol u) LEFT _ _ _ h.0 ∙ on_not (symbol u) DOT _ _ _ h.1 ∙ ap (mapped no_parts) (on_not (symbol u) BECOMES _ _ _ h.2) ∙ mapped_twice no_parts links (at_links (symbol u)))
   end_right (longer x) α [] k h = like (parts right) links_on (λ ls. ([], links ls)) α [] (λ g. k (finish right (plug x g.0.0) g.0.1, g.1)) refl
   end_right (longer x) α (u ∷ w) k h = like (parts right) links_on (λ ls. ([], links ls)) α (u ∷ w) (λ g. k (finish right (plug x g.0.0) g.0.1, g.1)) (on_not (symbol u) LEFT _ _ _ h.0 ∙ on_not (symbol u) DOT _ _ _ h.1 ∙ ap (mapped no_parts) (on_not (symbol u) BECOMES _ _ _ h.2) ∙ mapped_twice no_parts links (at_links (symbol u)))
 

@@ -1,8 +1,8 @@
 -- The items of the trees of goals, and of what is made of them. Assumes nothing.
-use Rattle.std.proofs.Common.{◌≡◌, ℕ, zero, suc, List, [], ◌∷◌, sym, refl, ap, ◌∙◌}
+use Rattle.std.proofs.Common.{◌≡◌, ℕ, zero, suc, List, [], ◌∷◌, refl, ap, ◌∙◌}
 use Rattle.grammar.specs.Symbols.{NAME, INTEGER, ARRAY, BYTE, DATA, ELSE, ELSEIF, END, ENDDATA, EXT, INT, PROC, REF, RETURN, THEN, VAL, LEFT, RIGHT, COMMA, DOT, SEMI, BECOMES, Symbol}
 use Rattle.grammar.specs.Trees.{Token, token, mark, key, Spelling, Many, one, more, of_many, Opt, none, some, of_opt, of_name, of_names, Dyadic, spell, Expr, Term, primary, variable, call, call_on, Variable, name, element, component, Exprs, first, comma, of_expr, of_term, of_primary, of_variable, of_exprs, spell_comparator, of_comparison, of_subcondition, of_condition, of_mode, of_amode, Fields, also, next, of_fields, of_init, Value, Values, of_value, of_values, of_entry, of_dec, of_local, Locals, locals, of_locals, Destination, place, val, of_destination, Arms, elsewhen, of_body, of_sequence, of_statement, of_arms, of_brick, of_moditem}
-use Rattle.grammar.specs.Machine.{Flat, here, below, Link, link, State, close_level, close, fresh, put, folds, arrange, Stand, inner, start, right, Part, index, select, plug, Source, final, onto, Tail, assigns, links, End, Rest, Ending, Closed, Argued, shut, several, Arguments, no_argument, argument, Named, called, goes, Result, assigned, finish, finish_call, gather, finish_calls, finish_closed, finish_argued, finish_arguments, finish_named, Others, ends, otherwise, elseif, branched, Inside, inside, declares, enclose, returns, Dims, bare, brackets, Target, to_int, to_byte, to_record, to_array, refers, Further, alike, other, fielded, Setting, stored, inblock, Sort, unset, set, Initial, Declared, Chain, value, via, chained, initial, stored_name, Linked, through, uses, block_name, listed, entered, External, procs, stores, externally, Repetition, exprs, ors, ands, statements, modes, entries, moditems, declareds, decs, Goal, tok, all, each, rest, links_on, a_term, a_primary, named, arguments, argued, ClosedOn, parts, a_source, compared, arms_on, returned, a_body, a_target, dims, an_amode, maybe_mode_lem, maybe_modes_lem, TheFields, fields_on, a_further, maybe_fields_lem, given_on, chain, linked, a_value, times_on, maybe_values, an_external, a_brick, separator, Single, Whole, begun, added, adds, Tree, Forest}
+use Rattle.grammar.specs.Machine.{Flat, here, below, Link, link, State, close_level, close, fresh, put, folds, arrange, Stand, inner, start, right, Part, index, select, plug, Source, final, onto, Tail, assigns, links, End, Rest, Ending, Closed, Argued, shut, several, Arguments, no_argument, argument, Named, called, goes, Result, assigned, finish, finish_call, gather, finish_calls, finish_closed, finish_argued, finish_arguments, finish_named, Others, ends, otherwise, elseif, branched, Inside, inside, declares, enclose, returns, Dims, bare, brackets, Target, to_int, to_byte, to_record, to_array, refers, Further, alike, other, fielded, Setting, stored, inblock, Sort, unset, set, Initial, Declared, Chain, value, via, chained, initial, stored_name, Linked, through, uses, block_name, listed, entered, External, procs, stores, externally, Repetition, exprs, ors, ands, statements, modes, entries, moditems, declareds, decs, Goal, tok, all, each, rest, links_on, a_term, a_primary, named, arguments, argued, closed_on, parts, a_source, compared, arms_on, returned, a_body, a_target, dims, an_amode, maybe_mode, maybe_modes, the_fields, fields_on, a_further, maybe_fields, given_on, chain, linked, a_value, times_on, maybe_values, an_external, a_brick, separator, Single, Whole, begun, added, adds, Tree, Forest}
 
 abbrev pub spell_flat : {n : ℕ} → Flat n → Symbol
 spell_flat (here n o) = spell o
@@ -336,7 +336,7 @@ of_goal a_primary t r = of_primary t r
 of_goal (named w) t r = of_named w t r
 of_goal (arguments w) t r = of_arguments w t r
 of_goal (argued w) t r = of_argued w t r
-of_goal (ClosedOn w) t r = of_closed w t r
+of_goal (closed_on w) t r = of_closed w t r
 of_goal (parts w) t r = of_ending w t r
 of_goal a_source t r = of_source t r
 of_goal compared t r = key (spell_comparator t.0) ∷ of_expr t.1 r
@@ -346,12 +346,12 @@ of_goal a_body t r = of_inside t r
 of_goal a_target t r = of_target t r
 of_goal dims t r = of_dims t r
 of_goal an_amode t r = of_amode t r
-of_goal maybe_mode_lem t r = of_opt of_mode t r
-of_goal maybe_modes_lem t r = of_opt (of_many of_mode COMMA) t r
-of_goal TheFields t r = of_fields t r
+of_goal maybe_mode t r = of_opt of_mode t r
+of_goal maybe_modes t r = of_opt (of_many of_mode COMMA) t r
+of_goal the_fields t r = of_fields t r
 of_goal fields_on t r = of_furthers t r
 of_goal a_further t r = of_further t.0 (of_furthers t.1 r)
-of_goal maybe_fields_lem t r = of_opt of_fields t r
+of_goal maybe_fields t r = of_opt of_fields t r
 of_goal (given_on v) t r = of_given (of_initial v) t r
 of_goal (chain v) t r = of_chain (of_initial v) t r
 of_goal linked t r = of_linked t r

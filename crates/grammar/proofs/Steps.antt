@@ -1,5 +1,5 @@
 -- The steps of `run` at an index of the symbols, for the proofs of a parser. Assumes nothing.
-use Rattle.std.proofs.Common.{◌≡◌, ℕ, zero, suc, ◌+◌, ◌<◌, Bool, true, false, cond, List, [], ◌∷◌, ◌++◌, length, get_or, drop, sym, refl, ap, ◌∙◌, subst, add-one, drop-cons}
+use Rattle.std.proofs.Common.{◌≡◌, ℕ, zero, suc, ◌+◌, ◌<◌, false, List, [], ◌∷◌, length, get_or, drop, sym, refl, ap, ◌∙◌, subst, add-one, drop-cons}
 use Rattle.grammar.specs.Symbols.{STOP, Symbol}
 use Rattle.grammar.specs.Trees.{mark, Opt, none, some}
 use Rattle.grammar.specs.Sentences.{items, Answer, bad, deep}

@@ -4,7 +4,7 @@
 use Rattle.std.specs.Prelude.{◌≡◌, ℕ, zero, suc, Bool, true, false, cond, List, [], ◌∷◌}
 use Rattle.grammar.specs.Symbols.{NAME, INTEGER, TEXT, ABS, AND, ARRAY, BLOCK, BYTE, DATA, DO, ELSE, ELSEIF, END, ENDBLOCK, ENDDATA, ENDPROC, ENT, EXT, IF, INT, LAND, LENGTH, LOR, MOD, MODE, NEV, NOT, OR, PROC, REF, REP, RETURN, THEN, TO, VAL, WHILE, LEFT, RIGHT, STAR, PLUS, MINUS, COMMA, DOT, SEMI, LESS, EQUAL, MORE, HASH, BECOMES, DIVIDE, ATMOST, ATLEAST, IS, ISNT, same, Symbol}
 use Rattle.grammar.specs.Sentences.{Sentence, Viable, opens, closes, Answer, fine, bad, deep, Meaning}
-use Rattle.grammar.specs.Trees.{Many, one, more, Opt, none, some, Dyadic, times, divide, modulo, land, lor, nev, plus, minus, Monadic, positive, negative, absolute, complement, narrow, size, Expr, term, up, dyadic, Term, monadic, primary, Primary, integer, text, variable, call, call_on, paren, Variable, name, element, component, Exprs, first, comma, Comparator, equal, unequal, less, at_most, greater, at_least_lem, same_place, other_place, Comparison, compare, Mode, int, byte, ref_int, ref_byte, ref_record, ref_array, ref_array_brackets, Amode, simple, records, Fields, field, also, next, Init, plain, given, Value, constant, signed, minus_signed, identifier, string, empty_list, list, Values, only, and, Entry, once, repeated, Dec, nothing, variables, arrays, structures, Local, local, Locals, no_locals, locals, Destination, place, val, Body, body, Sequence, single, sequel, Statement, dummy, block, assign, invoke, invoke_on, branch, branch_else, repeat, loop, return, return_with, Arms, when, elsewhen, Brick, store, procedure, Moditem, blank, external_procs, external_store, record_mode, own, entry}
+use Rattle.grammar.specs.Trees.{Many, one, more, Opt, none, some, Dyadic, times, divide, modulo, land, lor, nev, plus, minus, Monadic, positive, negative, absolute, complement, narrow, size, Expr, term, up, dyadic, Term, monadic, primary, Primary, integer, text, variable, call, call_on, paren, Variable, name, element, component, Exprs, first, comma, Comparator, equal, unequal, less, at_most, greater, at_least, same_place, other_place, Comparison, compare, Mode, int, byte, ref_int, ref_byte, ref_record, ref_array, ref_array_brackets, Amode, simple, records, Fields, field, also, next, Init, plain, given, Value, constant, signed, minus_signed, identifier, string, empty_list, list, Values, only, and, Entry, once, repeated, Dec, nothing, variables, arrays, structures, Local, local, Locals, no_locals, locals, Destination, place, val, Body, body, Sequence, single, sequel, Statement, dummy, block, assign, invoke, invoke_on, branch, branch_else, repeat, loop, return, return_with, Arms, when, elsewhen, Brick, store, procedure, Moditem, blank, external_procs, external_store, record_mode, own, entry}
 
 -- An expression as it is read: a term, and then operators with terms. Seen from level n, an operator is of the level below, or of a lower one.
 pub data Flat : ℕ → Type 0 where
@@ -266,12 +266,12 @@ pub data Goal : Type 0 where
   tok : Symbol → Goal
   all each rest : Repetition → Goal
   links_on a_term a_primary : Goal
-  named arguments argued ClosedOn parts : Stand → Goal
+  named arguments argued closed_on parts : Stand → Goal
   a_source : Goal
   compared : Goal
-  arms_on returned a_Body : Goal
-  a_target dims an_amode maybe_mode_lem maybe_modes_lem : Goal
-  TheFields fields_on a_further maybe_fields_lem : Goal
+  arms_on returned a_body : Goal
+  a_target dims an_amode maybe_mode maybe_modes : Goal
+  the_fields fields_on a_further maybe_fields : Goal
   given_on chain : Setting → Goal
   linked : Goal
   a_value times_on maybe_values : Goal
@@ -358,22 +358,22 @@ Tree a_primary = Primary
 Tree (named w) = Named w
 Tree (arguments w) = Arguments w
 Tree (argued w) = Argued w
-Tree (ClosedOn w) = Closed w
+Tree (closed_on w) = Closed w
 Tree (parts w) = Ending w
 Tree a_source = Source
 Tree compared = Comparator × Expr 5
 Tree arms_on = Others
 Tree returned = Opt (ℕ × Expr 5)
-Tree a_Body = Inside
+Tree a_body = Inside
 Tree a_target = Target
 Tree dims = Dims
 Tree an_amode = Amode
-Tree maybe_mode_lem = Opt Mode
-Tree maybe_modes_lem = Opt (Many Mode)
-Tree TheFields = Fields
+Tree maybe_mode = Opt Mode
+Tree maybe_modes = Opt (Many Mode)
+Tree the_fields = Fields
 Tree fields_on = List Further
 Tree a_further = Further × List Further
-Tree maybe_fields_lem = Opt Fields
+Tree maybe_fields = Opt Fields
 Tree (given_on v) = Opt (Chain (Initial v))
 Tree (chain v) = Chain (Initial v)
 Tree linked = Linked
@@ -493,7 +493,7 @@ pull right α g = g
 
 abbrev pub at_argued : (w : Stand) → Symbol → Move (Argued w)
 at_argued w c =
-    on c RIGHT (λ α. ClosedOn w ∷ α) (λ n α g. (shut g.0, g.1))
+    on c RIGHT (λ α. closed_on w ∷ α) (λ n α g. (shut g.0, g.1))
     (on c COMMA (λ α. an_expr ∷ rest exprs ∷ tok RIGHT ∷ behind w α) (λ n α g. (several g.0 g.1.0 (pull w α g.1.1.1).0, (pull w α g.1.1.1).1))
     refuse)
 
@@ -524,7 +524,7 @@ at_comparator c =
     (on_comparator c LESS less
     (on_comparator c ATMOST at_most
     (on_comparator c MORE greater
-    (on_comparator c ATLEAST at_least_lem
+    (on_comparator c ATLEAST at_least
     (on_comparator c IS same_place
     (on_comparator c ISNT other_place
     refuse)))))))
@@ -608,9 +608,9 @@ at_dec s c =
 -- statements
 abbrev pub at_statement : Symbol → Move Statement
 at_statement c =
-    on c BLOCK (λ α. a_Body ∷ tok ENDBLOCK ∷ α) (λ n α g. (block (enclose no_locals g.0), g.1.1))
+    on c BLOCK (λ α. a_body ∷ tok ENDBLOCK ∷ α) (λ n α g. (block (enclose no_locals g.0), g.1.1))
     (on c IF (λ α. all ors ∷ tok THEN ∷ all statements ∷ arms_on ∷ α) (λ n α g. (branched (when g.0 g.1.1.0) g.1.1.1.0, g.1.1.1.1))
-    (on c TO (λ α. an_expr ∷ tok DO ∷ a_Body ∷ tok REP ∷ α) (λ n α g. (repeat g.0 (enclose no_locals g.1.1.0), g.1.1.1.1))
+    (on c TO (λ α. an_expr ∷ tok DO ∷ a_body ∷ tok REP ∷ α) (λ n α g. (repeat g.0 (enclose no_locals g.1.1.0), g.1.1.1.1))
     (on c WHILE (λ α. all ors ∷ tok DO ∷ all statements ∷ tok REP ∷ α) (λ n α g. (loop g.0 g.1.1.0, g.1.1.1.1))
     (on c RETURN (λ α. returned ∷ α) (λ n α g. (returns n g.0, g.1))
     (on c VAL (λ α. tok NAME ∷ parts start ∷ α) (λ n α g. (assigned (one (val n (plug (name g.0) g.1.0.0))) g.1.0.1, g.1.1))
@@ -631,20 +631,20 @@ at_returned c = on c LEFT (λ α. an_expr ∷ tok RIGHT ∷ α) (λ n α g. (som
 abbrev pub at_brick : Symbol → Move Brick
 at_brick c =
     on c DATA (λ α. tok NAME ∷ tok SEMI ∷ all (decs (set stored)) ∷ tok ENDDATA ∷ α) (λ n α g. (store g.0 g.1.1.0, g.1.1.1.1))
-    (on c PROC (λ α. tok NAME ∷ tok LEFT ∷ maybe_fields_lem ∷ tok RIGHT ∷ maybe_mode_lem ∷ tok SEMI ∷ a_Body ∷ tok ENDPROC ∷ α)
+    (on c PROC (λ α. tok NAME ∷ tok LEFT ∷ maybe_fields ∷ tok RIGHT ∷ maybe_mode ∷ tok SEMI ∷ a_body ∷ tok ENDPROC ∷ α)
     (λ n α g. (procedure g.0 g.1.0 g.1.1.0 g.1.1.1.1.0 (enclose no_locals g.1.1.1.1.1.1.0) g.1.1.1.1.1.1.1.0, g.1.1.1.1.1.1.1.1))
     refuse)
 
 abbrev pub at_external : Symbol → Move External
 at_external c =
-    on c PROC (λ α. tok LEFT ∷ maybe_modes_lem ∷ tok RIGHT ∷ maybe_mode_lem ∷ all (declareds unset) ∷ α) (λ n α g. (procs g.0 g.1.0 g.1.1.1.0 g.1.1.1.1.0, g.1.1.1.1.1))
+    on c PROC (λ α. tok LEFT ∷ maybe_modes ∷ tok RIGHT ∷ maybe_mode ∷ all (declareds unset) ∷ α) (λ n α g. (procs g.0 g.1.0 g.1.1.1.0 g.1.1.1.1.0, g.1.1.1.1.1))
     (on c DATA (λ α. tok NAME ∷ tok SEMI ∷ all (decs unset) ∷ tok ENDDATA ∷ α) (λ n α g. (stores g.0 g.1.1.0, g.1.1.1.1))
     refuse)
 
 abbrev pub at_moditem : Symbol → Move Moditem
 at_moditem c =
     on c EXT (λ α. an_external ∷ α) (λ n α g. (externally g.0, g.1))
-    (on c MODE (λ α. tok NAME ∷ tok LEFT ∷ TheFields ∷ tok RIGHT ∷ α) (λ n α g. (record_mode g.0 g.1.0 g.1.1.0, g.1.1.1.1))
+    (on c MODE (λ α. tok NAME ∷ tok LEFT ∷ the_fields ∷ tok RIGHT ∷ α) (λ n α g. (record_mode g.0 g.1.0 g.1.1.0, g.1.1.1.1))
     (on c ENT (λ α. a_brick ∷ α) (λ n α g. (entry g.0, g.1))
     (orelse (mapped own (at_brick c)) (skip blank))))
 
@@ -671,7 +671,7 @@ at_all r c = at_whole r c (at_each r c)
 
 abbrev pub at_body : Symbol → Move Inside
 at_body c =
-    orelse (then (at_mode c) (λ α. all (declareds (set inblock)) ∷ tok SEMI ∷ a_Body ∷ α) (λ m α g. (declares (local m g.0) g.1.1.0, g.1.1.1)) never)
+    orelse (then (at_mode c) (λ α. all (declareds (set inblock)) ∷ tok SEMI ∷ a_body ∷ α) (λ m α g. (declares (local m g.0) g.1.1.0, g.1.1.1)) never)
     (mapped inside (at_all statements c))
 
 abbrev pub move : (x : Goal) → Symbol → Move (Tree x)
@@ -685,22 +685,22 @@ move a_primary c = at_primary c
 move (named w) c = at_named w c
 move (arguments w) c = at_arguments w c
 move (argued w) c = at_argued w c
-move (ClosedOn w) c = at_closed w c
+move (closed_on w) c = at_closed w c
 move (parts w) c = at_parts w c
 move a_source c = at_source c
 move compared c = at_comparator c
 move arms_on c = at_arms c
 move returned c = at_returned c
-move a_Body c = at_body c
+move a_body c = at_body c
 move a_target c = at_target c
 move dims c = at_dims c
 move an_amode c = at_amode c
-move maybe_mode_lem c = optional (at_mode c)
-move maybe_modes_lem c = optional (at_all modes c)
-move TheFields c = at_fields c
+move maybe_mode c = optional (at_mode c)
+move maybe_modes c = optional (at_all modes c)
+move the_fields c = at_fields c
 move fields_on c = at_fields_on c
 move a_further c = at_further c
-move maybe_fields_lem c = optional (at_fields c)
+move maybe_fields c = optional (at_fields c)
 move (given_on v) c = at_given v c
 move (chain v) c = at_chain v c
 move linked c = at_linked c
@@ -747,22 +747,22 @@ void a_primary = none
 void (named w) = map_opt (λ e. goes ([], e)) (void_end w)
 void (arguments w) = none
 void (argued w) = none
-void (ClosedOn w) = void_closed w
+void (closed_on w) = void_closed w
 void (parts w) = map_opt (λ e. ([], e)) (void_end w)
 void a_source = none
 void compared = none
 void arms_on = none
 void returned = some none
-void a_Body = some (inside (single dummy))
+void a_body = some (inside (single dummy))
 void a_target = none
 void dims = none
 void an_amode = none
-void maybe_mode_lem = some none
-void maybe_modes_lem = some none
-void TheFields = none
+void maybe_mode = some none
+void maybe_modes = some none
+void the_fields = none
 void fields_on = some []
 void a_further = none
-void maybe_fields_lem = some none
+void maybe_fields = some none
 void (given_on v) = some none
 void (chain v) = none
 void linked = some (uses (goes ([], tt)) [])
@@ -795,7 +795,7 @@ seen (component v n) = longer (component (var_of (seen v)) n)
 
 abbrev pub next_goal : Seen → Stand → Goal
 next_goal (just_name n) w = named w
-next_goal (one_index n i e) w = ClosedOn w
+next_goal (one_index n i e) w = closed_on w
 next_goal (longer v) w = parts w
 
 -- a stack that a symbol leaves, with how trees for it make trees for the stack γ

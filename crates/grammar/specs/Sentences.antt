@@ -1,7 +1,7 @@
 -- Sentences, what may follow, and depth. Assumes nothing.
-use Rattle.std.specs.Prelude.{◌≡◌, ℕ, suc, ◌+◌, ◌≤◌, Bool, true, false, cond, List, [], ◌∷◌, ◌++◌, length}
+use Rattle.std.specs.Prelude.{◌≡◌, ℕ, suc, ◌+◌, ◌≤◌, Bool, true, cond, List, [], ◌∷◌, ◌++◌, length}
 use Rattle.grammar.specs.Symbols.{BLOCK, DO, END, ENDBLOCK, IF, REP, LEFT, RIGHT, among, Symbol}
-use Rattle.grammar.specs.Trees.{Token, symbol, mark, place, Module, of_module}
+use Rattle.grammar.specs.Trees.{Token, symbol, mark, Module, of_module}
 
 abbrev pub symbols : List Token → List Symbol
 symbols [] = []

@@ -1,6 +1,7 @@
 -- Symbols, and whether two are the same. Assumes nothing.
 use Rattle.std.specs.Prelude.{◌≡◌, ℕ, Bool, true, false, cond, List, [], ◌∷◌, ◌==◌, ◌≢◌, refl}
 use Rattle.std.proofs.Common.{sym, ◌∙◌, ap, eqb-true, ne_eqb}
+use borrow.Author.Tests.{eqb-false}
 pub use Rattle.grammar.specs.declared.Symbol.{Symbol}
 use Rattle.grammar.specs.declared.Symbol.TheVariants.{Stop, Name, Integer, Text, Abs, And, Array, Bin, Block, By, Byte, Code, Data, Do, Else, Elseif, End, Endblock, Enddata, Endproc, Ent, Ext, For, Frac, Goto, Hex, If, Int, Label, Land, Length, Let, Lor, Mod, Mode, Nev, Not, Oct, Of, Option, Or, Proc, Real, Ref, Rep, Return, Rtl, Sha, Shl, Sla, Sll, Sra, Srl, Stack, Svc, Switch, Then, Title, To, Val, While, Left, Right, Star, Plus, Minus, Comma, Dot, Slash, Colon, Semi, Less, Equal, More, Hash, Becomes, Divide, Slashes, AtMost, AtLeast, Is, Isnt}
 
@@ -456,3 +457,11 @@ among (k ∷ ks) c = cond (same c k) true (among ks c)
 abbrev pub Says : Bool → Type 0 → Type 0
 Says true P = P
 Says false P = P → ⊥
+
+-- the test of two symbols says whether they are the same one
+pub same_says : (a b : Symbol) → Says (same a b) (a ≡ b)
+same_says a b = by (same a b) refl
+  where
+    by : (r : Bool) → same a b ≡ r → Says r (a ≡ b)
+    by true e = same_true a b e
+    by false e = λ z. eqb-false (code a) (code b) e (ap code z)

@@ -1,6 +1,6 @@
 -- The syntax of a module: trees, and the items that a tree is made of, in their order. Assumes nothing.
 -- A number in a tree is the number of an item of the text, the first being 0. Which items a constructor's numbers are of, its line of `of-…` says.
-use Rattle.std.specs.Prelude.{ℕ, suc, Bool, true, false, cond, List, [], ◌∷◌}
+use Rattle.std.specs.Prelude.{ℕ, suc, Bool, cond, List, [], ◌∷◌}
 use Rattle.grammar.specs.Symbols.{NAME, INTEGER, TEXT, ABS, AND, ARRAY, BLOCK, BYTE, DATA, DO, ELSE, ELSEIF, END, ENDBLOCK, ENDDATA, ENDPROC, ENT, EXT, IF, INT, LAND, LENGTH, LOR, MOD, MODE, NEV, NOT, OR, PROC, REF, REP, RETURN, THEN, TO, VAL, WHILE, LEFT, RIGHT, STAR, PLUS, MINUS, COMMA, DOT, SEMI, LESS, EQUAL, MORE, HASH, BECOMES, DIVIDE, ATMOST, ATLEAST, IS, ISNT, among, Symbol}
 
 -- An item as a tree has it: its symbol, and its number if the tree keeps that of such symbols, otherwise 0.
@@ -139,7 +139,7 @@ abbrev mutual
 
 -- Conditions.
 pub data Comparator : Type 0 where
-  equal unequal less at_most greater at_least_lem same_place other_place : Comparator
+  equal unequal less at_most greater at_least same_place other_place : Comparator
 
 abbrev pub spell_comparator : Comparator → Symbol
 spell_comparator equal = EQUAL
@@ -147,7 +147,7 @@ spell_comparator unequal = HASH
 spell_comparator less = LESS
 spell_comparator at_most = ATMOST
 spell_comparator greater = MORE
-spell_comparator at_least_lem = ATLEAST
+spell_comparator at_least = ATLEAST
 spell_comparator same_place = IS
 spell_comparator other_place = ISNT
 

@@ -1,12 +1,10 @@
 #![tactic(auto)]
 
 ghost use Rattle.std.specs.Prelude.{◌≡◌};
-ghost use Rattle.grammar.specs.Symbols.{code, Says};
+ghost use Rattle.grammar.specs.Symbols.{Says, code, same};
 ghost use Rattle.grammar.specs.Sentences.{Balanced, OneAnswer, OneTree, Unique, MadeSentence, NothingAfter};
 ghost use Rattle.grammar.specs.Machine.{RunRight, ViableFronts, Accepted};
 ghost use Rattle.grammar.specs.Examples.{Examples};
-ghost use Rattle.std.specs.Cmp.Rules.{comparing};
-ghost use Rattle.std.proofs.Common.{rules};
 ghost use Rattle.std.specs.Cmp as Keys;
 
 // The symbols of a module: what an item counts as in the syntax. `Stop` stands behind the last item.
@@ -186,18 +184,22 @@ pub fn ordinal(c: Symbol) -> u8
     }
 }
 
-impl PartialEq<Symbol> for Symbol {
-    ghost equals = { λ x y r. Says r (x ≡ y) };
+// Two symbols are alike exactly where they are the same one (`same_says`).
+impl PartialEq for Symbol {
+    ghost eq = { same };
 
-    ghost laws = { Keys.partial_equiv_from_equiv (Prim.search (comparing, rules)) };
+    ghost laws = { Keys.partial_equiv_from_equiv (Keys.on_equiv code Keys.nat_eq_equiv) };
 
-    fn eq(&self, other: &Self) -> bool {
+    fn eq(&self, other: &Self) -> bool
+        ensures test { result ≡ same self.now other.now }
+        ensures says { Says result (self.now ≡ other.now) }
+    {
         ordinal(*self) == ordinal(*other)
     }
 }
 
 impl Eq for Symbol {
-    ghost laws = { Prim.search (comparing, rules) };
+    ghost laws = { Keys.on_equiv code Keys.nat_eq_equiv };
 }
 
 // Of the symbols of a text exactly one is so: they are a module within the depth allowed; or a first one can follow in no module; or a

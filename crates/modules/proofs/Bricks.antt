@@ -4,7 +4,7 @@ use Rattle.grammar.specs.Symbols.{STOP, NAME, SEMI, DATA, ENDDATA, PROC, ENDPROC
 use Rattle.grammar.specs.declared.Symbol.{Symbol}
 use Rattle.grammar.specs.Trees.{Token, token, key, mark, Many, of_many, Opt, of_opt, Dec, of_dec, Fields, of_fields, Mode, of_mode, Body, of_body, Brick, store, procedure, of_brick}
 use Rattle.grammar.specs.Sentences.{items}
-use Rattle.grammar.specs.Machine.{Goal, refuse, tok, all, decs, maybe_fields_lem, maybe_mode_lem, a_brick, a_body, fewer}
+use Rattle.grammar.specs.Machine.{Goal, refuse, tok, all, decs, maybe_fields, maybe_mode, a_brick, a_body, fewer}
 use Rattle.grammar.proofs.Steps.{items_here, step_at, sink_at, refuse_at, refuses}
 use Rattle.nodes.proofs.Build.{grown, not_on, token_refused, fewer_is, more_is}
 use Rattle.nodes.proofs.Keep.{keep_many, keep_opt, keep_dec, keep_init, keep_value, keep_fields, keep_mode, keep_body, agree_trans}
@@ -94,21 +94,21 @@ module _ (d : ℕ) (s : List Symbol) (i used : ℕ) (h : i < length s) (q : get_
 
 -- a procedure up to its body
 abbrev pub FieldsMade : ℕ → List Symbol → ℕ → ℕ → List Node → List Node → Parsed → Type 0
-FieldsMade d s i used ns ms p = Made 1 (Opt Fields) (IsOpt IsFields) (of_opt of_fields) (Way (maybe_fields_lem ∷ []) d s i) s i used ns ms p
+FieldsMade d s i used ns ms p = Made 1 (Opt Fields) (IsOpt IsFields) (of_opt of_fields) (Way (maybe_fields ∷ []) d s i) s i used ns ms p
 
 abbrev pub ResultMade : ℕ → List Symbol → ℕ → ℕ → List Node → List Node → Parsed → Type 0
-ResultMade d s i used ns ms p = Made 1 (Opt Mode) (IsOpt IsMode) (of_opt of_mode) (Way (maybe_mode_lem ∷ []) d s i) s i used ns ms p
+ResultMade d s i used ns ms p = Made 1 (Opt Mode) (IsOpt IsMode) (of_opt of_mode) (Way (maybe_mode ∷ []) d s i) s i used ns ms p
 
 module _ (d : ℕ) (s : List Symbol) (i used : ℕ) (h : i < length s) (q : get_or s i STOP ≡ PROC) where
   -- what follows the brackets, and the bracket's inside
   abbrev behind : List Goal → List Goal
   behind α = tok SEMI ∷ a_body ∷ tok ENDPROC ∷ α
 
-  proc_way : (α : List Goal) → at d (a_brick ∷ α) s i ≡ at d (tok NAME ∷ tok LEFT ∷ maybe_fields_lem ∷ tok RIGHT ∷ maybe_mode_lem ∷ behind α) s (i + 1)
-  proc_way α = step_at d (a_brick ∷ α) (tok NAME ∷ tok LEFT ∷ maybe_fields_lem ∷ tok RIGHT ∷ maybe_mode_lem ∷ behind α) s i d PROC h q refl refl
+  proc_way : (α : List Goal) → at d (a_brick ∷ α) s i ≡ at d (tok NAME ∷ tok LEFT ∷ maybe_fields ∷ tok RIGHT ∷ maybe_mode ∷ behind α) s (i + 1)
+  proc_way α = step_at d (a_brick ∷ α) (tok NAME ∷ tok LEFT ∷ maybe_fields ∷ tok RIGHT ∷ maybe_mode ∷ behind α) s i d PROC h q refl refl
 
   pub no_proc_name : (get_or s (i + 1) STOP ≡ NAME → ⊥) → Refused (a_brick ∷ []) d s i (Syntax (i + 1))
-  no_proc_name n α = proc_way α ∙ token_refused d NAME (tok LEFT ∷ maybe_fields_lem ∷ tok RIGHT ∷ maybe_mode_lem ∷ behind α) s (i + 1) n
+  no_proc_name n α = proc_way α ∙ token_refused d NAME (tok LEFT ∷ maybe_fields ∷ tok RIGHT ∷ maybe_mode ∷ behind α) s (i + 1) n
 
   module _ (h₁ : i + 1 < length s) (q₁ : get_or s (i + 1) STOP ≡ NAME) where
     one_more : i + 1 + 1 ≡ i + 2
@@ -117,32 +117,32 @@ module _ (d : ℕ) (s : List Symbol) (i used : ℕ) (h : i < length s) (q : get_
     two_more : i + 2 + 1 ≡ i + 3
     two_more = omega arith
 
-    named_way : (α : List Goal) → at d (a_brick ∷ α) s i ≡ at d (tok LEFT ∷ maybe_fields_lem ∷ tok RIGHT ∷ maybe_mode_lem ∷ behind α) s (i + 2)
-    named_way α = proc_way α ∙ step_at d (tok NAME ∷ tok LEFT ∷ maybe_fields_lem ∷ tok RIGHT ∷ maybe_mode_lem ∷ behind α) (tok LEFT ∷ maybe_fields_lem ∷ tok RIGHT ∷ maybe_mode_lem ∷ behind α) s (i + 1) d NAME h₁ q₁ refl refl ∙ ap (λ (j : ℕ). at d (tok LEFT ∷ maybe_fields_lem ∷ tok RIGHT ∷ maybe_mode_lem ∷ behind α) s j) one_more
+    named_way : (α : List Goal) → at d (a_brick ∷ α) s i ≡ at d (tok LEFT ∷ maybe_fields ∷ tok RIGHT ∷ maybe_mode ∷ behind α) s (i + 2)
+    named_way α = proc_way α ∙ step_at d (tok NAME ∷ tok LEFT ∷ maybe_fields ∷ tok RIGHT ∷ maybe_mode ∷ behind α) (tok LEFT ∷ maybe_fields ∷ tok RIGHT ∷ maybe_mode ∷ behind α) s (i + 1) d NAME h₁ q₁ refl refl ∙ ap (λ (j : ℕ). at d (tok LEFT ∷ maybe_fields ∷ tok RIGHT ∷ maybe_mode ∷ behind α) s j) one_more
 
     pub no_proc_left : (get_or s (i + 2) STOP ≡ LEFT → ⊥) → Refused (a_brick ∷ []) d s i (Syntax (i + 2))
-    no_proc_left n α = named_way α ∙ token_refused d LEFT (maybe_fields_lem ∷ tok RIGHT ∷ maybe_mode_lem ∷ behind α) s (i + 2) n
+    no_proc_left n α = named_way α ∙ token_refused d LEFT (maybe_fields ∷ tok RIGHT ∷ maybe_mode ∷ behind α) s (i + 2) n
 
     module _ (h₂ : i + 2 < length s) (q₂ : get_or s (i + 2) STOP ≡ LEFT) where
       pub proc_deep : d ≡ 0 → Refused (a_brick ∷ []) d s i (Deep (i + 2))
-      proc_deep z α = named_way α ∙ sink_at d (tok LEFT ∷ maybe_fields_lem ∷ tok RIGHT ∷ maybe_mode_lem ∷ behind α) (maybe_fields_lem ∷ tok RIGHT ∷ maybe_mode_lem ∷ behind α) s (i + 2) LEFT h₂ q₂ refl (ap fewer z)
+      proc_deep z α = named_way α ∙ sink_at d (tok LEFT ∷ maybe_fields ∷ tok RIGHT ∷ maybe_mode ∷ behind α) (maybe_fields ∷ tok RIGHT ∷ maybe_mode ∷ behind α) s (i + 2) LEFT h₂ q₂ refl (ap fewer z)
 
       module _ (z : 0 < d) where
-        left_way : (α : List Goal) → at d (a_brick ∷ α) s i ≡ at (d - 1) (maybe_fields_lem ∷ tok RIGHT ∷ maybe_mode_lem ∷ behind α) s (i + 3)
-        left_way α = named_way α ∙ step_at d (tok LEFT ∷ maybe_fields_lem ∷ tok RIGHT ∷ maybe_mode_lem ∷ behind α) (maybe_fields_lem ∷ tok RIGHT ∷ maybe_mode_lem ∷ behind α) s (i + 2) (d - 1) LEFT h₂ q₂ refl (fewer_is d z) ∙ ap (λ (j : ℕ). at (d - 1) (maybe_fields_lem ∷ tok RIGHT ∷ maybe_mode_lem ∷ behind α) s j) two_more
+        left_way : (α : List Goal) → at d (a_brick ∷ α) s i ≡ at (d - 1) (maybe_fields ∷ tok RIGHT ∷ maybe_mode ∷ behind α) s (i + 3)
+        left_way α = named_way α ∙ step_at d (tok LEFT ∷ maybe_fields ∷ tok RIGHT ∷ maybe_mode ∷ behind α) (maybe_fields ∷ tok RIGHT ∷ maybe_mode ∷ behind α) s (i + 2) (d - 1) LEFT h₂ q₂ refl (fewer_is d z) ∙ ap (λ (j : ℕ). at (d - 1) (maybe_fields ∷ tok RIGHT ∷ maybe_mode ∷ behind α) s j) two_more
 
-        pub parameters_refused : (f : Fault) → Refused (maybe_fields_lem ∷ []) (d - 1) s (i + 3) f → Refused (a_brick ∷ []) d s i f
-        parameters_refused f r α = left_way α ∙ r (tok RIGHT ∷ maybe_mode_lem ∷ behind α)
+        pub parameters_refused : (f : Fault) → Refused (maybe_fields ∷ []) (d - 1) s (i + 3) f → Refused (a_brick ∷ []) d s i f
+        parameters_refused f r α = left_way α ∙ r (tok RIGHT ∷ maybe_mode ∷ behind α)
 
         module _ (ns ms : List Node) (p : Parsed) (m : FieldsMade (d - 1) s (i + 3) used ns ms p) where
           pub no_proc_right : (get_or s p.next STOP ≡ RIGHT → ⊥) → Refused (a_brick ∷ []) d s i (Syntax p.next)
-          no_proc_right n α = left_way α ∙ m.met (tok RIGHT ∷ maybe_mode_lem ∷ behind α) ∙ token_refused (d - 1) RIGHT (maybe_mode_lem ∷ behind α) s p.next n
+          no_proc_right n α = left_way α ∙ m.met (tok RIGHT ∷ maybe_mode ∷ behind α) ∙ token_refused (d - 1) RIGHT (maybe_mode ∷ behind α) s p.next n
 
           module _ (h₃ : p.next < length s) (q₃ : get_or s p.next STOP ≡ RIGHT) where
-            right_way : (α : List Goal) → at d (a_brick ∷ α) s i ≡ at d (maybe_mode_lem ∷ behind α) s (p.next + 1)
-            right_way α = left_way α ∙ m.met (tok RIGHT ∷ maybe_mode_lem ∷ behind α) ∙ step_at (d - 1) (tok RIGHT ∷ maybe_mode_lem ∷ behind α) (maybe_mode_lem ∷ behind α) s p.next d RIGHT h₃ q₃ refl (more_is d z)
+            right_way : (α : List Goal) → at d (a_brick ∷ α) s i ≡ at d (maybe_mode ∷ behind α) s (p.next + 1)
+            right_way α = left_way α ∙ m.met (tok RIGHT ∷ maybe_mode ∷ behind α) ∙ step_at (d - 1) (tok RIGHT ∷ maybe_mode ∷ behind α) (maybe_mode ∷ behind α) s p.next d RIGHT h₃ q₃ refl (more_is d z)
 
-            pub result_refused : (f : Fault) → Refused (maybe_mode_lem ∷ []) d s (p.next + 1) f → Refused (a_brick ∷ []) d s i f
+            pub result_refused : (f : Fault) → Refused (maybe_mode ∷ []) d s (p.next + 1) f → Refused (a_brick ∷ []) d s i f
             result_refused f r α = right_way α ∙ r (behind α)
 
             module _ (os : List Node) (e : Parsed) (o : ResultMade d s (p.next + 1) p.used ms os e) where

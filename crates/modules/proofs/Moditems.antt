@@ -4,7 +4,7 @@ use Rattle.grammar.specs.Symbols.{among, STOP, COMMA, NAME, DATA, PROC, EXT, MOD
 use Rattle.grammar.specs.declared.Symbol.{Symbol}
 use Rattle.grammar.specs.Trees.{Token, token, key, mark, Many, of_many, Opt, of_opt, Fields, of_fields, Mode, of_mode, of_names, Brick, of_brick, Moditem, blank, external_procs, external_store, record_mode, own, entry, of_moditem, Module, of_module}
 use Rattle.grammar.specs.Sentences.{items, fine, bad, Answer, Made as Made-of}
-use Rattle.grammar.specs.Machine.{Goal, Move, refuse, mapped, orelse, tok, each, all, moditems, declareds, unset, an_external, a_brick, TheFields, maybe_mode_lem, maybe_modes_lem, a_module, at_brick, fewer, run, step_to}
+use Rattle.grammar.specs.Machine.{Goal, Move, refuse, mapped, orelse, tok, each, all, moditems, declareds, unset, an_external, a_brick, the_fields, maybe_mode, maybe_modes, a_module, at_brick, fewer, run, step_to}
 use Rattle.grammar.proofs.Right.{clash, among_but as found_in}
 use Rattle.grammar.proofs.Steps.{items_here, step_at, sink_at, refuse_at, refuses, skip_at}
 use Rattle.nodes.proofs.Build.{grown, not_on, alike, token_refused, fewer_is, more_is}
@@ -25,13 +25,13 @@ abbrev pub ModitemMade : ℕ → List Symbol → ℕ → ℕ → List Node → L
 ModitemMade d s i used ns ms p = Made 1 Moditem IsModitem of_moditem (Way (each moditems ∷ []) d s i) s i used ns ms p
 
 abbrev pub ModesMade : ℕ → List Symbol → ℕ → ℕ → List Node → List Node → Parsed → Type 0
-ModesMade d s i used ns ms p = Made 1 (Opt (Many Mode)) (IsOpt (IsMany IsMode)) (of_opt (of_many of_mode COMMA)) (Way (maybe_modes_lem ∷ []) d s i) s i used ns ms p
+ModesMade d s i used ns ms p = Made 1 (Opt (Many Mode)) (IsOpt (IsMany IsMode)) (of_opt (of_many of_mode COMMA)) (Way (maybe_modes ∷ []) d s i) s i used ns ms p
 
 abbrev pub NamesMade : ℕ → List Symbol → ℕ → ℕ → List Node → List Node → Parsed → Type 0
 NamesMade d s i used ns ms p = Made 0 (Many ℕ) (IsMany IsName) of_names (Way (all (declareds unset) ∷ []) d s i) s i used ns ms p
 
 abbrev pub FieldsMade : ℕ → List Symbol → ℕ → ℕ → List Node → List Node → Parsed → Type 0
-FieldsMade d s i used ns ms p = Made 0 Fields IsFields of_fields (Way (TheFields ∷ []) d s i) s i used ns ms p
+FieldsMade d s i used ns ms p = Made 0 Fields IsFields of_fields (Way (the_fields ∷ []) d s i) s i used ns ms p
 
 -- an empty item; bricks
 module _ (d : ℕ) (s : List Symbol) (i used : ℕ) where
@@ -72,11 +72,11 @@ module _ (d : ℕ) (s : List Symbol) (i used : ℕ) where
 
 -- a record mode
 module _ (d : ℕ) (s : List Symbol) (i used : ℕ) (h : i < length s) (q : get_or s i STOP ≡ MODE) where
-  mode_way : (α : List Goal) → at d (each moditems ∷ α) s i ≡ at d (tok NAME ∷ tok LEFT ∷ TheFields ∷ tok RIGHT ∷ α) s (i + 1)
-  mode_way α = step_at d (each moditems ∷ α) (tok NAME ∷ tok LEFT ∷ TheFields ∷ tok RIGHT ∷ α) s i d MODE h q refl refl
+  mode_way : (α : List Goal) → at d (each moditems ∷ α) s i ≡ at d (tok NAME ∷ tok LEFT ∷ the_fields ∷ tok RIGHT ∷ α) s (i + 1)
+  mode_way α = step_at d (each moditems ∷ α) (tok NAME ∷ tok LEFT ∷ the_fields ∷ tok RIGHT ∷ α) s i d MODE h q refl refl
 
   pub no_record_name : (get_or s (i + 1) STOP ≡ NAME → ⊥) → Refused (each moditems ∷ []) d s i (Syntax (i + 1))
-  no_record_name n α = mode_way α ∙ token_refused d NAME (tok LEFT ∷ TheFields ∷ tok RIGHT ∷ α) s (i + 1) n
+  no_record_name n α = mode_way α ∙ token_refused d NAME (tok LEFT ∷ the_fields ∷ tok RIGHT ∷ α) s (i + 1) n
 
   module _ (h₁ : i + 1 < length s) (q₁ : get_or s (i + 1) STOP ≡ NAME) where
     one_more : i + 1 + 1 ≡ i + 2
@@ -85,21 +85,21 @@ module _ (d : ℕ) (s : List Symbol) (i used : ℕ) (h : i < length s) (q : get_
     two_more : i + 2 + 1 ≡ i + 3
     two_more = omega arith
 
-    record_way : (α : List Goal) → at d (each moditems ∷ α) s i ≡ at d (tok LEFT ∷ TheFields ∷ tok RIGHT ∷ α) s (i + 2)
-    record_way α = mode_way α ∙ step_at d (tok NAME ∷ tok LEFT ∷ TheFields ∷ tok RIGHT ∷ α) (tok LEFT ∷ TheFields ∷ tok RIGHT ∷ α) s (i + 1) d NAME h₁ q₁ refl refl ∙ ap (λ (j : ℕ). at d (tok LEFT ∷ TheFields ∷ tok RIGHT ∷ α) s j) one_more
+    record_way : (α : List Goal) → at d (each moditems ∷ α) s i ≡ at d (tok LEFT ∷ the_fields ∷ tok RIGHT ∷ α) s (i + 2)
+    record_way α = mode_way α ∙ step_at d (tok NAME ∷ tok LEFT ∷ the_fields ∷ tok RIGHT ∷ α) (tok LEFT ∷ the_fields ∷ tok RIGHT ∷ α) s (i + 1) d NAME h₁ q₁ refl refl ∙ ap (λ (j : ℕ). at d (tok LEFT ∷ the_fields ∷ tok RIGHT ∷ α) s j) one_more
 
     pub no_record_left : (get_or s (i + 2) STOP ≡ LEFT → ⊥) → Refused (each moditems ∷ []) d s i (Syntax (i + 2))
-    no_record_left n α = record_way α ∙ token_refused d LEFT (TheFields ∷ tok RIGHT ∷ α) s (i + 2) n
+    no_record_left n α = record_way α ∙ token_refused d LEFT (the_fields ∷ tok RIGHT ∷ α) s (i + 2) n
 
     module _ (h₂ : i + 2 < length s) (q₂ : get_or s (i + 2) STOP ≡ LEFT) where
       pub record_deep : d ≡ 0 → Refused (each moditems ∷ []) d s i (Deep (i + 2))
-      record_deep z α = record_way α ∙ sink_at d (tok LEFT ∷ TheFields ∷ tok RIGHT ∷ α) (TheFields ∷ tok RIGHT ∷ α) s (i + 2) LEFT h₂ q₂ refl (ap fewer z)
+      record_deep z α = record_way α ∙ sink_at d (tok LEFT ∷ the_fields ∷ tok RIGHT ∷ α) (the_fields ∷ tok RIGHT ∷ α) s (i + 2) LEFT h₂ q₂ refl (ap fewer z)
 
       module _ (z : 0 < d) where
-        inside_way : (α : List Goal) → at d (each moditems ∷ α) s i ≡ at (d - 1) (TheFields ∷ tok RIGHT ∷ α) s (i + 3)
-        inside_way α = record_way α ∙ step_at d (tok LEFT ∷ TheFields ∷ tok RIGHT ∷ α) (TheFields ∷ tok RIGHT ∷ α) s (i + 2) (d - 1) LEFT h₂ q₂ refl (fewer_is d z) ∙ ap (λ (j : ℕ). at (d - 1) (TheFields ∷ tok RIGHT ∷ α) s j) two_more
+        inside_way : (α : List Goal) → at d (each moditems ∷ α) s i ≡ at (d - 1) (the_fields ∷ tok RIGHT ∷ α) s (i + 3)
+        inside_way α = record_way α ∙ step_at d (tok LEFT ∷ the_fields ∷ tok RIGHT ∷ α) (the_fields ∷ tok RIGHT ∷ α) s (i + 2) (d - 1) LEFT h₂ q₂ refl (fewer_is d z) ∙ ap (λ (j : ℕ). at (d - 1) (the_fields ∷ tok RIGHT ∷ α) s j) two_more
 
-        pub components_refused : (f : Fault) → Refused (TheFields ∷ []) (d - 1) s (i + 3) f → Refused (each moditems ∷ []) d s i f
+        pub components_refused : (f : Fault) → Refused (the_fields ∷ []) (d - 1) s (i + 3) f → Refused (each moditems ∷ []) d s i f
         components_refused f r α = inside_way α ∙ r (tok RIGHT ∷ α)
 
         module _ (ns ms : List Node) (p : Parsed) (m : FieldsMade (d - 1) s (i + 3) used ns ms p) where
@@ -143,32 +143,32 @@ module _ (d : ℕ) (s : List Symbol) (i used : ℕ) (h : i < length s) (q : get_
           (λ α. ext_data_way α ∙ m.met α)
 
     module _ (q₁ : get_or s (i + 1) STOP ≡ PROC) where
-      ext_proc_way : (α : List Goal) → at d (each moditems ∷ α) s i ≡ at d (tok LEFT ∷ maybe_modes_lem ∷ tok RIGHT ∷ maybe_mode_lem ∷ all (declareds unset) ∷ α) s (i + 2)
-      ext_proc_way α = ext_way α ∙ step_at d (an_external ∷ α) (tok LEFT ∷ maybe_modes_lem ∷ tok RIGHT ∷ maybe_mode_lem ∷ all (declareds unset) ∷ α) s (i + 1) d PROC h₁ q₁ refl refl ∙ ap (λ (j : ℕ). at d (tok LEFT ∷ maybe_modes_lem ∷ tok RIGHT ∷ maybe_mode_lem ∷ all (declareds unset) ∷ α) s j) two
+      ext_proc_way : (α : List Goal) → at d (each moditems ∷ α) s i ≡ at d (tok LEFT ∷ maybe_modes ∷ tok RIGHT ∷ maybe_mode ∷ all (declareds unset) ∷ α) s (i + 2)
+      ext_proc_way α = ext_way α ∙ step_at d (an_external ∷ α) (tok LEFT ∷ maybe_modes ∷ tok RIGHT ∷ maybe_mode ∷ all (declareds unset) ∷ α) s (i + 1) d PROC h₁ q₁ refl refl ∙ ap (λ (j : ℕ). at d (tok LEFT ∷ maybe_modes ∷ tok RIGHT ∷ maybe_mode ∷ all (declareds unset) ∷ α) s j) two
 
       pub no_ext_left : (get_or s (i + 2) STOP ≡ LEFT → ⊥) → Refused (each moditems ∷ []) d s i (Syntax (i + 2))
-      no_ext_left n α = ext_proc_way α ∙ token_refused d LEFT (maybe_modes_lem ∷ tok RIGHT ∷ maybe_mode_lem ∷ all (declareds unset) ∷ α) s (i + 2) n
+      no_ext_left n α = ext_proc_way α ∙ token_refused d LEFT (maybe_modes ∷ tok RIGHT ∷ maybe_mode ∷ all (declareds unset) ∷ α) s (i + 2) n
 
       module _ (h₂ : i + 2 < length s) (q₂ : get_or s (i + 2) STOP ≡ LEFT) where
         pub ext_deep : d ≡ 0 → Refused (each moditems ∷ []) d s i (Deep (i + 2))
-        ext_deep z α = ext_proc_way α ∙ sink_at d (tok LEFT ∷ maybe_modes_lem ∷ tok RIGHT ∷ maybe_mode_lem ∷ all (declareds unset) ∷ α) (maybe_modes_lem ∷ tok RIGHT ∷ maybe_mode_lem ∷ all (declareds unset) ∷ α) s (i + 2) LEFT h₂ q₂ refl (ap fewer z)
+        ext_deep z α = ext_proc_way α ∙ sink_at d (tok LEFT ∷ maybe_modes ∷ tok RIGHT ∷ maybe_mode ∷ all (declareds unset) ∷ α) (maybe_modes ∷ tok RIGHT ∷ maybe_mode ∷ all (declareds unset) ∷ α) s (i + 2) LEFT h₂ q₂ refl (ap fewer z)
 
         module _ (z : 0 < d) where
-          ext_left_way : (α : List Goal) → at d (each moditems ∷ α) s i ≡ at (d - 1) (maybe_modes_lem ∷ tok RIGHT ∷ maybe_mode_lem ∷ all (declareds unset) ∷ α) s (i + 3)
-          ext_left_way α = ext_proc_way α ∙ step_at d (tok LEFT ∷ maybe_modes_lem ∷ tok RIGHT ∷ maybe_mode_lem ∷ all (declareds unset) ∷ α) (maybe_modes_lem ∷ tok RIGHT ∷ maybe_mode_lem ∷ all (declareds unset) ∷ α) s (i + 2) (d - 1) LEFT h₂ q₂ refl (fewer_is d z) ∙ ap (λ (j : ℕ). at (d - 1) (maybe_modes_lem ∷ tok RIGHT ∷ maybe_mode_lem ∷ all (declareds unset) ∷ α) s j) three
+          ext_left_way : (α : List Goal) → at d (each moditems ∷ α) s i ≡ at (d - 1) (maybe_modes ∷ tok RIGHT ∷ maybe_mode ∷ all (declareds unset) ∷ α) s (i + 3)
+          ext_left_way α = ext_proc_way α ∙ step_at d (tok LEFT ∷ maybe_modes ∷ tok RIGHT ∷ maybe_mode ∷ all (declareds unset) ∷ α) (maybe_modes ∷ tok RIGHT ∷ maybe_mode ∷ all (declareds unset) ∷ α) s (i + 2) (d - 1) LEFT h₂ q₂ refl (fewer_is d z) ∙ ap (λ (j : ℕ). at (d - 1) (maybe_modes ∷ tok RIGHT ∷ maybe_mode ∷ all (declareds unset) ∷ α) s j) three
 
-          pub ext_modes_refused : (f : Fault) → Refused (maybe_modes_lem ∷ []) (d - 1) s (i + 3) f → Refused (each moditems ∷ []) d s i f
-          ext_modes_refused f r α = ext_left_way α ∙ r (tok RIGHT ∷ maybe_mode_lem ∷ all (declareds unset) ∷ α)
+          pub ext_modes_refused : (f : Fault) → Refused (maybe_modes ∷ []) (d - 1) s (i + 3) f → Refused (each moditems ∷ []) d s i f
+          ext_modes_refused f r α = ext_left_way α ∙ r (tok RIGHT ∷ maybe_mode ∷ all (declareds unset) ∷ α)
 
           module _ (ns ms : List Node) (p : Parsed) (m : ModesMade (d - 1) s (i + 3) used ns ms p) where
             pub no_ext_right : (get_or s p.next STOP ≡ RIGHT → ⊥) → Refused (each moditems ∷ []) d s i (Syntax p.next)
-            no_ext_right n α = ext_left_way α ∙ m.met (tok RIGHT ∷ maybe_mode_lem ∷ all (declareds unset) ∷ α) ∙ token_refused (d - 1) RIGHT (maybe_mode_lem ∷ all (declareds unset) ∷ α) s p.next n
+            no_ext_right n α = ext_left_way α ∙ m.met (tok RIGHT ∷ maybe_mode ∷ all (declareds unset) ∷ α) ∙ token_refused (d - 1) RIGHT (maybe_mode ∷ all (declareds unset) ∷ α) s p.next n
 
             module _ (h₃ : p.next < length s) (q₃ : get_or s p.next STOP ≡ RIGHT) where
-              ext_right_way : (α : List Goal) → at d (each moditems ∷ α) s i ≡ at d (maybe_mode_lem ∷ all (declareds unset) ∷ α) s (p.next + 1)
-              ext_right_way α = ext_left_way α ∙ m.met (tok RIGHT ∷ maybe_mode_lem ∷ all (declareds unset) ∷ α) ∙ step_at (d - 1) (tok RIGHT ∷ maybe_mode_lem ∷ all (declareds unset) ∷ α) (maybe_mode_lem ∷ all (declareds unset) ∷ α) s p.next d RIGHT h₃ q₃ refl (more_is d z)
+              ext_right_way : (α : List Goal) → at d (each moditems ∷ α) s i ≡ at d (maybe_mode ∷ all (declareds unset) ∷ α) s (p.next + 1)
+              ext_right_way α = ext_left_way α ∙ m.met (tok RIGHT ∷ maybe_mode ∷ all (declareds unset) ∷ α) ∙ step_at (d - 1) (tok RIGHT ∷ maybe_mode ∷ all (declareds unset) ∷ α) (maybe_mode ∷ all (declareds unset) ∷ α) s p.next d RIGHT h₃ q₃ refl (more_is d z)
 
-              pub ext_result_refused : (f : Fault) → Refused (maybe_mode_lem ∷ []) d s (p.next + 1) f → Refused (each moditems ∷ []) d s i f
+              pub ext_result_refused : (f : Fault) → Refused (maybe_mode ∷ []) d s (p.next + 1) f → Refused (each moditems ∷ []) d s i f
               ext_result_refused f r α = ext_right_way α ∙ r (all (declareds unset) ∷ α)
 
               module _ (os : List Node) (e : Parsed) (o : ResultMade d s (p.next + 1) p.used ms os e) where

@@ -3,7 +3,7 @@ use Rattle.std.proofs.Common.{◌≡◌, ℕ, ◌+◌, ◌*◌, ◌<◌, ◌≤�
 use Rattle.grammar.specs.Symbols.{among, STOP}
 use Rattle.grammar.specs.declared.Symbol.{Symbol}
 use Rattle.grammar.specs.Trees.{Spelling, Opt, none, some, of_opt, Mode, Fields, field}
-use Rattle.grammar.specs.Machine.{Goal, Move, optional, then, never, tok, fields_on, fielded, modes, all, a_mode, TheFields, maybe_fields_lem, maybe_mode_lem, maybe_modes_lem, at_whole, move, skip}
+use Rattle.grammar.specs.Machine.{Goal, Move, optional, then, never, tok, fields_on, fielded, modes, all, a_mode, the_fields, maybe_fields, maybe_mode, maybe_modes, at_whole, move, skip}
 use Rattle.grammar.specs.Symbols.{NAME}
 use Rattle.grammar.proofs.Steps.{skip_at}
 use Rattle.nodes.proofs.Build.{grown}
@@ -29,21 +29,21 @@ module _ {T : Type 0} (Is : Reading T) (of : Spelling T) (G H : Goal) (d : ℕ) 
 
 module _ (d : ℕ) (s : List Symbol) (i : ℕ) where
   module _ (h : i < length s) (q : among mode_firsts (get_or s i STOP) ≡ true) where
-    pub mode_there : (α : List Goal) → at d (maybe_mode_lem ∷ α) s i ≡ at d (a_mode ∷ α) s i
-    mode_there α = mode_alike d (maybe_mode_lem ∷ α) (a_mode ∷ α) s i h q refl refl refl
+    pub mode_there : (α : List Goal) → at d (maybe_mode ∷ α) s i ≡ at d (a_mode ∷ α) s i
+    mode_there α = mode_alike d (maybe_mode ∷ α) (a_mode ∷ α) s i h q refl refl refl
 
-    pub modes_there : (α : List Goal) → at d (maybe_modes_lem ∷ α) s i ≡ at d (all modes ∷ α) s i
-    modes_there α = mode_alike d (maybe_modes_lem ∷ α) (all modes ∷ α) s i h q refl refl refl
+    pub modes_there : (α : List Goal) → at d (maybe_modes ∷ α) s i ≡ at d (all modes ∷ α) s i
+    modes_there α = mode_alike d (maybe_modes ∷ α) (all modes ∷ α) s i h q refl refl refl
 
-    pub fields_there : (α : List Goal) → at d (maybe_fields_lem ∷ α) s i ≡ at d (TheFields ∷ α) s i
-    fields_there α = mode_alike d (maybe_fields_lem ∷ α) (TheFields ∷ α) s i h q refl refl refl
+    pub fields_there : (α : List Goal) → at d (maybe_fields ∷ α) s i ≡ at d (the_fields ∷ α) s i
+    fields_there α = mode_alike d (maybe_fields ∷ α) (the_fields ∷ α) s i h q refl refl refl
 
   module _ (q : among mode_firsts (get_or s i STOP) ≡ false) where
-    pub no_mode_there : (α : List Goal) → at d (maybe_mode_lem ∷ α) s i ≡ at d α s i
-    no_mode_there α = skip_at d maybe_mode_lem α s i none none refl (ap (λ (m : Move Mode). optional m) (no_mode (get_or s i STOP) q))
+    pub no_mode_there : (α : List Goal) → at d (maybe_mode ∷ α) s i ≡ at d α s i
+    no_mode_there α = skip_at d maybe_mode α s i none none refl (ap (λ (m : Move Mode). optional m) (no_mode (get_or s i STOP) q))
 
-    pub no_modes_there : (α : List Goal) → at d (maybe_modes_lem ∷ α) s i ≡ at d α s i
-    no_modes_there α = skip_at d maybe_modes_lem α s i none none refl (ap (λ (m : Move Mode). optional (at_whole modes (get_or s i STOP) m)) (no_mode (get_or s i STOP) q))
+    pub no_modes_there : (α : List Goal) → at d (maybe_modes ∷ α) s i ≡ at d α s i
+    no_modes_there α = skip_at d maybe_modes α s i none none refl (ap (λ (m : Move Mode). optional (at_whole modes (get_or s i STOP) m)) (no_mode (get_or s i STOP) q))
 
-    pub no_fields_there : (α : List Goal) → at d (maybe_fields_lem ∷ α) s i ≡ at d α s i
-    no_fields_there α = skip_at d maybe_fields_lem α s i none none refl (ap (λ (m : Move Mode). optional (then m (λ α. tok NAME ∷ fields_on ∷ α) (λ e α g. (fielded (field e g.0) g.1.0, g.1.1)) never)) (no_mode (get_or s i STOP) q))
+    pub no_fields_there : (α : List Goal) → at d (maybe_fields ∷ α) s i ≡ at d α s i
+    no_fields_there α = skip_at d maybe_fields α s i none none refl (ap (λ (m : Move Mode). optional (then m (λ α. tok NAME ∷ fields_on ∷ α) (λ e α g. (fielded (field e g.0) g.1.0, g.1.1)) never)) (no_mode (get_or s i STOP) q))

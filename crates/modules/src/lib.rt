@@ -5,7 +5,7 @@ ghost use Rattle.std.specs.Prelude.{◌≡◌, ◌+◌, ◌*◌, ◌<◌, ◌≤
 ghost use Rattle.grammar.specs.Symbols.{among, STOP, COMMA, DATA, PROC, EXT, MODE, ENT};
 ghost use Rattle.grammar.specs.Trees.{Opt, of_opt, Many, of_many, Dec, Fields, of_fields, Mode, of_mode, Brick, of_brick, Moditem, of_moditem, Module, of_module};
 ghost use Rattle.grammar.specs.Sentences.{fine, Made as Made-of};
-ghost use Rattle.grammar.specs.Machine.{each, all, moditems, maybe_fields_lem, maybe_mode_lem, maybe_modes_lem, a_brick, a_module, run};
+ghost use Rattle.grammar.specs.Machine.{each, all, moditems, maybe_fields, maybe_mode, maybe_modes, a_brick, a_module, run};
 ghost use Rattle.nodes.specs.Made.{Made, Way, Refused, answer};
 ghost use Rattle.nodes.specs.Nodes.{IsOpt, IsMany, IsDec, IsFields, IsMode, IsBrick, IsModitem, IsModule};
 ghost use Rattle.declarations.specs.Declaring.{Listing, IsListing};
@@ -30,7 +30,7 @@ fn maybe_fields(
 ) -> Result<Parsed, Fault>
     requires within { i ≤ length s.now }
     requires room { used + 1 + 2 * length s.now ≤ length nodes.old + 2 * i }
-    ensures { MatchResult result (λ p. Made 1 (Opt Fields) (IsOpt IsFields) (of_opt of_fields) (Way (maybe_fields_lem ∷ []) depth s.now i) s.now i used nodes.old nodes.new p) (λ f. Refused (maybe_fields_lem ∷ []) depth s.now i f) }
+    ensures { MatchResult result (λ p. Made 1 (Opt Fields) (IsOpt IsFields) (of_opt of_fields) (Way (maybe_fields ∷ []) depth s.now i) s.now i used nodes.old nodes.new p) (λ f. Refused (maybe_fields ∷ []) depth s.now i f) }
 {
     if begins_mode(peek(s, i)) {
         return fields(s, i, depth, nodes, used);
@@ -53,7 +53,7 @@ fn maybe_mode(
 ) -> Result<Parsed, Fault>
     requires within { i ≤ length s.now }
     requires room { used + 1 + 2 * length s.now ≤ length nodes.old + 2 * i }
-    ensures { MatchResult result (λ p. Made 1 (Opt Mode) (IsOpt IsMode) (of_opt of_mode) (Way (maybe_mode_lem ∷ []) depth s.now i) s.now i used nodes.old nodes.new p) (λ f. Refused (maybe_mode_lem ∷ []) depth s.now i f) }
+    ensures { MatchResult result (λ p. Made 1 (Opt Mode) (IsOpt IsMode) (of_opt of_mode) (Way (maybe_mode ∷ []) depth s.now i) s.now i used nodes.old nodes.new p) (λ f. Refused (maybe_mode ∷ []) depth s.now i f) }
 {
     if begins_mode(peek(s, i)) {
         return mode(s, i, depth, nodes, used);
@@ -76,7 +76,7 @@ fn maybe_modes(
 ) -> Result<Parsed, Fault>
     requires within { i ≤ length s.now }
     requires room { used + 1 + 2 * length s.now ≤ length nodes.old + 2 * i }
-    ensures { MatchResult result (λ p. Made 1 (Opt (Many Mode)) (IsOpt (IsMany IsMode)) (of_opt (of_many of_mode COMMA)) (Way (maybe_modes_lem ∷ []) depth s.now i) s.now i used nodes.old nodes.new p) (λ f. Refused (maybe_modes_lem ∷ []) depth s.now i f) }
+    ensures { MatchResult result (λ p. Made 1 (Opt (Many Mode)) (IsOpt (IsMany IsMode)) (of_opt (of_many of_mode COMMA)) (Way (maybe_modes ∷ []) depth s.now i) s.now i used nodes.old nodes.new p) (λ f. Refused (maybe_modes ∷ []) depth s.now i f) }
 {
     if begins_mode(peek(s, i)) {
         return modes(s, i, depth, nodes, used);

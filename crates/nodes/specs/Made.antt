@@ -4,7 +4,7 @@ use Rattle.grammar.specs.Symbols.{among, same, STOP, PLUS, MINUS, STAR, DIVIDE, 
 use Rattle.grammar.specs.declared.Symbol.{Symbol}
 use Rattle.grammar.specs.Trees.{Spelling, Token, key, Many, of_many, of_name, Expr, Term, Primary, integer, text, variable, call, call_on, paren, Variable, Exprs, first, comma}
 use Rattle.grammar.specs.Sentences.{Answer, bad, deep, items}
-use Rattle.grammar.specs.Machine.{Goal, each, declareds, set, Setting, chain, TheFields, fields_on, tok, rest, exprs, argued, Stand, named, parts, a_primary, a_term, links_on, run, behind, next_goal, seen, Seen, just_name, one_index, longer}
+use Rattle.grammar.specs.Machine.{Goal, each, declareds, set, Setting, chain, the_fields, fields_on, tok, rest, exprs, argued, Stand, named, parts, a_primary, a_term, links_on, run, behind, next_goal, seen, Seen, just_name, one_index, longer}
 use Rattle.nodes.specs.Nodes.{Agree}
 use Rattle.nodes.specs.declared.Node.{Node}
 use Rattle.nodes.specs.declared.Parsed.{Parsed}
@@ -119,7 +119,7 @@ comparators = EQUAL ∷ HASH ∷ LESS ∷ ATMOST ∷ MORE ∷ ATLEAST ∷ IS ∷
 
 -- components or parameters, of which more may follow
 abbrev pub FieldsWay : {T : Type 0} → ℕ → List Symbol → ℕ → T → ℕ → Type 0
-FieldsWay d s i t j = (α : List Goal) → at d (TheFields ∷ α) s i ≡ at d (fields_on ∷ α) s j
+FieldsWay d s i t j = (α : List Goal) → at d (the_fields ∷ α) s i ≡ at d (fields_on ∷ α) s j
 
 -- A name and ':=' are at i. Names that share a value, each with ':=' behind it.
 abbrev pub Shares : List Symbol → ℕ → Type 0

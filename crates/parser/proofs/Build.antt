@@ -1,11 +1,11 @@
 -- What the parser's functions answer, step by step. Assumes nothing.
-use Rattle.std.proofs.Common.{◌≡◌, ℕ, zero, suc, ◌+◌, ◌-◌, ◌*◌, ◌<◌, ◌≤◌, Bool, true, false, eqb, List, [], ◌∷◌, ◌++◌, length, get_or, drop, set, sym, refl, ap, ◌∙◌, subst, arith}
+use Rattle.std.proofs.Common.{◌≡◌, ℕ, zero, suc, ◌+◌, ◌-◌, ◌*◌, ◌<◌, ◌≤◌, false, eqb, List, [], ◌∷◌, ◌++◌, length, get_or, drop, set, sym, refl, ap, ◌∙◌, arith}
 use borrow.Author.Tests.{eqb-false}
 use Rattle.grammar.specs.Symbols.{code, not_same, STOP, NAME, INTEGER, TEXT, LEFT, RIGHT, COMMA, DOT}
 use Rattle.grammar.specs.declared.Symbol.{Symbol}
-use Rattle.grammar.specs.Trees.{Spelling, Token, token, key, Opt, none, some, Expr, Term, Primary, integer, text, variable, call, call_on, paren, Variable, name, element, component, Exprs, first, comma, of_expr, of_exprs, of_primary, of_variable}
+use Rattle.grammar.specs.Trees.{Spelling, Token, token, key, Opt, some, Expr, Primary, integer, text, variable, call, call_on, paren, Variable, name, element, component, Exprs, first, comma, of_expr, of_exprs, of_primary, of_variable}
 use Rattle.grammar.specs.Sentences.{items}
-use Rattle.grammar.specs.Machine.{Goal, Forest, Move, refuse, on, goes, mapped, tok, rest, exprs, an_expr, a_primary, named, arguments, argued, ClosedOn, parts, Stand, inner, start, right, argument, behind, Seen, just_name, one_index, longer, seen, indexed, next_goal, step_to, go, level, fewer, run}
+use Rattle.grammar.specs.Machine.{Goal, Forest, Move, refuse, on, goes, mapped, tok, rest, exprs, an_expr, a_primary, named, arguments, argued, closed_on, parts, Stand, inner, start, right, argument, behind, Seen, just_name, one_index, longer, seen, indexed, next_goal, step_to, go, level, fewer, run}
 use Rattle.grammar.proofs.Expressions.{on_not}
 use Rattle.grammar.proofs.Steps.{found, items_here, step_at, sink_at, refuse_at, refuses, skip_at, followed_at}
 use Rattle.parser.proofs.Keep.{keep_expr, keep_exprs, keep_variable, agree_set, at_set, agree_trans}
@@ -130,7 +130,7 @@ module _ (d : ℕ) (s : List Symbol) (i used : ℕ) (ns : List Node) (h : i < le
 
     form_ends : (x : Seen) (j : ℕ) (α : List Goal) → Ended s j → at d (next_goal x inner ∷ α) s j ≡ at d α s j
     form_ends (just_name n) j α e = skip_at d (named inner) α s j (goes ([], tt)) (goes ([], tt)) refl (not_on (get_or s j STOP) LEFT _ _ _ e.0 ∙ ap (mapped goes) (not_on (get_or s j STOP) DOT _ _ _ e.1))
-    form_ends (one_index n k x) j α e = skip_at d (ClosedOn inner) α s j ([], tt) ([], tt) refl (not_on (get_or s j STOP) LEFT _ _ _ e.0 ∙ not_on (get_or s j STOP) DOT _ _ _ e.1)
+    form_ends (one_index n k x) j α e = skip_at d (closed_on inner) α s j ([], tt) ([], tt) refl (not_on (get_or s j STOP) LEFT _ _ _ e.0 ∙ not_on (get_or s j STOP) DOT _ _ _ e.1)
     form_ends (longer x) j α e = skip_at d (parts inner) α s j ([], tt) ([], tt) refl (not_on (get_or s j STOP) LEFT _ _ _ e.0 ∙ not_on (get_or s j STOP) DOT _ _ _ e.1)
 
     form_way : (t : Primary) (j : ℕ) → FormWay d s i t j → Way (a_primary ∷ []) d s i t j
@@ -154,9 +154,9 @@ FormMade d s i used ns ms p = Made 0 Primary IsPrimary of_primary (FormWay d s i
 module _ (d : ℕ) (s : List Symbol) (j : ℕ) where
   index_way : (x : Seen) → NotCalled x s j → j < length s → get_or s j STOP ≡ LEFT → (w : Stand) (α : List Goal) → at d (next_goal x w ∷ α) s j ≡ at d (Brackets ++ (parts w ∷ α)) s j
   index_way (just_name n) c h q w α = absurd (c q)
-  index_way (one_index n k e) c h q inner α = alike d (ClosedOn inner ∷ α) (Brackets ++ (parts inner ∷ α)) s j LEFT h q refl
-  index_way (one_index n k e) c h q start α = alike d (ClosedOn start ∷ α) (Brackets ++ (parts start ∷ α)) s j LEFT h q refl
-  index_way (one_index n k e) c h q right α = alike d (ClosedOn right ∷ α) (Brackets ++ (parts right ∷ α)) s j LEFT h q refl
+  index_way (one_index n k e) c h q inner α = alike d (closed_on inner ∷ α) (Brackets ++ (parts inner ∷ α)) s j LEFT h q refl
+  index_way (one_index n k e) c h q start α = alike d (closed_on start ∷ α) (Brackets ++ (parts start ∷ α)) s j LEFT h q refl
+  index_way (one_index n k e) c h q right α = alike d (closed_on right ∷ α) (Brackets ++ (parts right ∷ α)) s j LEFT h q refl
   index_way (longer x) c h q w α = alike d (parts w ∷ α) (Brackets ++ (parts w ∷ α)) s j LEFT h q refl
 
   element_way : (x : Seen) (k : ℕ) (e : Expr 5) → NotCalled x s j → get_or s j STOP ≡ LEFT → (w : Stand) (α : List Goal) → at d (parts w ∷ α) s k ≡ at d (next_goal (indexed x j e) w ∷ α) s k
@@ -171,9 +171,9 @@ module _ (d : ℕ) (s : List Symbol) (j : ℕ) where
 
   dot_way : (x : Seen) → j < length s → get_or s j STOP ≡ DOT → (w : Stand) (α : List Goal) → at d (next_goal x w ∷ α) s j ≡ at d (tok NAME ∷ parts w ∷ α) s (j + 1)
   dot_way (just_name n) h q w α = step_at d (named w ∷ α) (tok NAME ∷ parts w ∷ α) s j d DOT h q refl refl
-  dot_way (one_index n k e) h q inner α = step_at d (ClosedOn inner ∷ α) (tok NAME ∷ parts inner ∷ α) s j d DOT h q refl refl
-  dot_way (one_index n k e) h q start α = step_at d (ClosedOn start ∷ α) (tok NAME ∷ parts start ∷ α) s j d DOT h q refl refl
-  dot_way (one_index n k e) h q right α = step_at d (ClosedOn right ∷ α) (tok NAME ∷ parts right ∷ α) s j d DOT h q refl refl
+  dot_way (one_index n k e) h q inner α = step_at d (closed_on inner ∷ α) (tok NAME ∷ parts inner ∷ α) s j d DOT h q refl refl
+  dot_way (one_index n k e) h q start α = step_at d (closed_on start ∷ α) (tok NAME ∷ parts start ∷ α) s j d DOT h q refl refl
+  dot_way (one_index n k e) h q right α = step_at d (closed_on right ∷ α) (tok NAME ∷ parts right ∷ α) s j d DOT h q refl refl
   dot_way (longer x) h q w α = step_at d (parts w ∷ α) (tok NAME ∷ parts w ∷ α) s j d DOT h q refl refl
 
 module _ (d : ℕ) (s : List Symbol) (i used : ℕ) (es ns : List Node) (p : Parsed) (m : VariableMade d s i used es ns p) where
@@ -253,7 +253,7 @@ module _ (d : ℕ) (s : List Symbol) (i used : ℕ) (ns : List Node) (h : i < le
               (λ j l. m.kept j (omega arith))
               (λ g a. (used, e.root, omega (arith, m.more), m.below, a, g used (omega (arith, m.more)) ∙ m.kept used (omega arith) ∙ o, keep_expr e.used ms _ g m.tree e.root m.below m.is))
               (called_text ∙ ap (λ (v : List Token). token NAME i ∷ token LEFT (i + 1) ∷ v) (m.text ∙ ap (of_expr m.tree) (items_here s e.next RIGHT h'' q'')))
-              (λ w α. argument_way w α ∙ m.met (argued w ∷ α) ∙ step_at (d - 1) (argued w ∷ α) (ClosedOn w ∷ α) s e.next d RIGHT h'' q'' refl (more_is d z), tt)
+              (λ w α. argument_way w α ∙ m.met (argued w ∷ α) ∙ step_at (d - 1) (argued w ∷ α) (closed_on w ∷ α) s e.next d RIGHT h'' q'' refl (more_is d z), tt)
 
 -- the further expressions of a call
 abbrev pub ArgsMade : ℕ → List Symbol → ℕ → ℕ → List Node → List Node → Parsed → Type 0

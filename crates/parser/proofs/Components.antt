@@ -1,10 +1,10 @@
 -- Components and parameters, step by step. Assumes nothing.
-use Rattle.std.proofs.Common.{◌≡◌, ℕ, ◌+◌, ◌-◌, ◌*◌, ◌<◌, ◌≤◌, Bool, true, false, cond, List, [], ◌∷◌, ◌++◌, length, get_or, drop, set, sym, refl, ap, ◌∙◌, arith}
+use Rattle.std.proofs.Common.{◌≡◌, ℕ, ◌+◌, ◌<◌, Bool, true, false, cond, List, [], ◌∷◌, length, get_or, drop, set, refl, ap, ◌∙◌, arith}
 use Rattle.grammar.specs.Symbols.{same, STOP, NAME, INT, BYTE, REF, COMMA}
 use Rattle.grammar.specs.declared.Symbol.{Symbol}
-use Rattle.grammar.specs.Trees.{Token, token, key, Opt, none, some, Mode, Fields, field, also, next, of_mode, of_fields}
+use Rattle.grammar.specs.Trees.{Token, token, key, Opt, Mode, Fields, field, also, next, of_mode, of_fields}
 use Rattle.grammar.specs.Sentences.{items}
-use Rattle.grammar.specs.Machine.{Goal, Forest, Tree, Left as Left-stack, Move, shift, skip, refuse, on, then, never, tok, a_mode, TheFields, fields_on, a_further, fielded, alike, other, at_mode, taken, onto_stack, step}
+use Rattle.grammar.specs.Machine.{Goal, Forest, Tree, Left as Left-stack, Move, shift, skip, refuse, on, then, never, tok, a_mode, the_fields, fields_on, a_further, fielded, other, at_mode, taken, onto_stack, step}
 use Rattle.grammar.proofs.Steps.{items_here, step_at, refuse_at, refuses, like_at, skip_at}
 use Rattle.parser.proofs.Build.{grown, not_on}
 use Rattle.parser.proofs.Modes.{ModeMade}
@@ -15,7 +15,7 @@ use Rattle.parser.specs.declared.Node.{Node}
 use Rattle.parser.specs.declared.Node.TheVariants as node
 use Rattle.parser.specs.declared.Parsed.{Parsed}
 use Rattle.parser.specs.declared.Fault.{Fault}
-use Rattle.parser.specs.declared.Fault.TheVariants.{Syntax, Deep}
+use Rattle.parser.specs.declared.Fault.TheVariants.{Syntax}
 
 -- a move that is no skip
 abbrev Sure : {T : Type 0} → Move T → Type 0
@@ -46,25 +46,25 @@ abbrev pub FieldsMade : ℕ → List Symbol → ℕ → ℕ → List Node → Li
 FieldsMade d s i used ns ms p = Made 0 Fields IsFields of_fields (FieldsWay d s i) s i used ns ms p
 
 module _ (d : ℕ) (s : List Symbol) (i used : ℕ) where
-  fields_begin : (α : List Goal) → at d (TheFields ∷ α) s i ≡ at d (a_mode ∷ tok NAME ∷ fields_on ∷ α) s i
-  fields_begin α = like_at d (TheFields ∷ α) (a_mode ∷ tok NAME ∷ fields_on ∷ α) s i refl (begins_mode TheFields (λ α. tok NAME ∷ fields_on ∷ α) (λ m α g. (fielded (field m g.0) g.1.0, g.1.1)) α (get_or s i STOP))
+  fields_begin : (α : List Goal) → at d (the_fields ∷ α) s i ≡ at d (a_mode ∷ tok NAME ∷ fields_on ∷ α) s i
+  fields_begin α = like_at d (the_fields ∷ α) (a_mode ∷ tok NAME ∷ fields_on ∷ α) s i refl (begins_mode the_fields (λ α. tok NAME ∷ fields_on ∷ α) (λ m α g. (fielded (field m g.0) g.1.0, g.1.1)) α (get_or s i STOP))
 
-  pub first_mode_refused : (f : Fault) → Refused (a_mode ∷ []) d s i f → Refused (TheFields ∷ []) d s i f
+  pub first_mode_refused : (f : Fault) → Refused (a_mode ∷ []) d s i f → Refused (the_fields ∷ []) d s i f
   first_mode_refused f r α = fields_begin α ∙ r (tok NAME ∷ fields_on ∷ α)
 
   module _ (ns ms : List Node) (p : Parsed) (m : ModeMade d s i used ns ms p) where
-    pub first_no_name : (get_or s p.next STOP ≡ NAME → ⊥) → Refused (TheFields ∷ []) d s i (Syntax p.next)
+    pub first_no_name : (get_or s p.next STOP ≡ NAME → ⊥) → Refused (the_fields ∷ []) d s i (Syntax p.next)
     first_no_name n α = fields_begin α ∙ m.met (tok NAME ∷ fields_on ∷ α) ∙ refuse_at d (tok NAME ∷ fields_on ∷ α) s p.next refl (refuses (tok NAME) (fields_on ∷ α) (get_or s p.next STOP) (not_on (get_or s p.next STOP) NAME _ _ refuse n))
 
     pub made_field : p.next < length s → get_or s p.next STOP ≡ NAME → p.used < length ms → FieldsMade d s i used ns (set ms p.used (node.Field p.root p.next)) (record { next = p.next + 1; used = p.used + 1; root = p.used })
     made_field h q r = grown 0 IsFields of_fields (FieldsWay d s i) s i used ns ms p.used (p.next + 1) (node.Field p.root p.next) r (field m.tree p.next) (omega arith) m.more (omega (arith, m.few)) m.kept (λ g a. (p.root, m.below, a, keep_mode p.used ms _ g m.tree p.root m.below m.is)) (m.text ∙ ap (of_mode m.tree) (items_here s p.next NAME h q)) (λ α. fields_begin α ∙ m.met (tok NAME ∷ fields_on ∷ α) ∙ step_at d (tok NAME ∷ fields_on ∷ α) (fields_on ∷ α) s p.next d NAME h q refl refl)
 
   module _ (es ns : List Node) (p : Parsed) (m : FieldsMade d s i used es ns p) where
-    pub fields_end : (os : List Node) → Agree used os es → (get_or s p.next STOP ≡ COMMA → ⊥) → Made 0 Fields IsFields of_fields (Way (TheFields ∷ []) d s i) s i used os ns p
+    pub fields_end : (os : List Node) → Agree used os es → (get_or s p.next STOP ≡ COMMA → ⊥) → Made 0 Fields IsFields of_fields (Way (the_fields ∷ []) d s i) s i used os ns p
     fields_end os a n = record { within = m.within; more = m.more; few = m.few; below = m.below; kept = agree_trans used used os es ns (omega arith) a m.kept; tree = m.tree; is = m.is; text = m.text; met = λ α. m.met α ∙ skip_at d fields_on α s p.next [] [] refl (not_on (get_or s p.next STOP) COMMA _ _ _ n) }
 
     module _ (h : p.next < length s) (q : get_or s p.next STOP ≡ COMMA) where
-      further_way : (α : List Goal) → at d (TheFields ∷ α) s i ≡ at d (a_further ∷ α) s (p.next + 1)
+      further_way : (α : List Goal) → at d (the_fields ∷ α) s i ≡ at d (a_further ∷ α) s (p.next + 1)
       further_way α = m.met α ∙ step_at d (fields_on ∷ α) (a_further ∷ α) s p.next d COMMA h q refl refl
 
       pub made_also : p.next + 1 < length s → get_or s (p.next + 1) STOP ≡ NAME → p.used < length ns → FieldsMade d s i used es (set ns p.used (node.AlsoField p.root (p.next + 1))) (record { next = p.next + 2; used = p.used + 1; root = p.used })
@@ -76,14 +76,14 @@ module _ (d : ℕ) (s : List Symbol) (i used : ℕ) where
           (λ α. further_way α ∙ step_at d (a_further ∷ α) (fields_on ∷ α) s (p.next + 1) d NAME h' q' refl refl ∙ ap (λ (j : ℕ). at d (fields_on ∷ α) s j) two)
 
       module _ (n : get_or s (p.next + 1) STOP ≡ NAME → ⊥) where
-        moded_way : (α : List Goal) → at d (TheFields ∷ α) s i ≡ at d (a_mode ∷ tok NAME ∷ fields_on ∷ α) s (p.next + 1)
+        moded_way : (α : List Goal) → at d (the_fields ∷ α) s i ≡ at d (a_mode ∷ tok NAME ∷ fields_on ∷ α) s (p.next + 1)
         moded_way α = let k : Symbol = get_or s (p.next + 1) STOP in further_way α ∙ like_at d (a_further ∷ α) (a_mode ∷ tok NAME ∷ fields_on ∷ α) s (p.next + 1) refl (ap (λ (m : Move _). onto_stack (a_further ∷ α) (taken a_further α m (step α k))) (not_on k NAME _ _ _ n) ∙ begins_mode a_further (λ α. tok NAME ∷ fields_on ∷ α) (λ m α g. ((other m g.0, g.1.0), g.1.1)) α k)
 
-        pub further_refused : (f : Fault) → Refused (a_mode ∷ []) d s (p.next + 1) f → Refused (TheFields ∷ []) d s i f
+        pub further_refused : (f : Fault) → Refused (a_mode ∷ []) d s (p.next + 1) f → Refused (the_fields ∷ []) d s i f
         further_refused f r α = moded_way α ∙ r (tok NAME ∷ fields_on ∷ α)
 
         module _ (ms : List Node) (e : Parsed) (b : ModeMade d s (p.next + 1) p.used ns ms e) where
-          pub further_no_name : (get_or s e.next STOP ≡ NAME → ⊥) → Refused (TheFields ∷ []) d s i (Syntax e.next)
+          pub further_no_name : (get_or s e.next STOP ≡ NAME → ⊥) → Refused (the_fields ∷ []) d s i (Syntax e.next)
           further_no_name x α = moded_way α ∙ b.met (tok NAME ∷ fields_on ∷ α) ∙ refuse_at d (tok NAME ∷ fields_on ∷ α) s e.next refl (refuses (tok NAME) (fields_on ∷ α) (get_or s e.next STOP) (not_on (get_or s e.next STOP) NAME _ _ refuse x))
 
           pub made_next : e.next < length s → get_or s e.next STOP ≡ NAME → e.used < length ms → FieldsMade d s i used es (set ms e.used (node.NextField p.root e.root e.next)) (record { next = e.next + 1; used = e.used + 1; root = e.used })

@@ -1,13 +1,13 @@
 -- Initial values, step by step. Assumes nothing.
-use Rattle.std.proofs.Common.{◌≡◌, ℕ, ◌+◌, ◌-◌, ◌*◌, ◌<◌, ◌≤◌, Bool, true, false, cond, List, [], ◌∷◌, ◌++◌, length, get_or, drop, set, sym, refl, ap, ◌∙◌, arith}
+use Rattle.std.proofs.Common.{◌≡◌, ℕ, ◌+◌, ◌-◌, ◌<◌, List, [], ◌∷◌, length, get_or, drop, set, refl, ap, ◌∙◌, arith}
 use Rattle.grammar.specs.Symbols.{STOP, NAME, INTEGER, TEXT, PLUS, MINUS, LEFT, RIGHT}
 use Rattle.grammar.specs.declared.Symbol.{Symbol}
 use Rattle.grammar.specs.Trees.{Token, token, key, Opt, none, some, Value, constant, signed, minus_signed, identifier, string, empty_list, list, Values, Entry, once, repeated, of_value, of_values, of_entry}
 use Rattle.grammar.specs.Sentences.{items}
-use Rattle.grammar.specs.Machine.{Goal, Left as Left-stack, Move, shift, skip, refuse, optional, tok, all, each, entries, a_value, maybe_values, times_on, entered, at_all, taken, onto_stack, step, step_to, fewer}
+use Rattle.grammar.specs.Machine.{Goal, Left as Left-stack, Move, shift, skip, refuse, optional, tok, all, each, entries, a_value, maybe_values, times_on, entered, at_all, taken, onto_stack, step, fewer}
 use Rattle.grammar.proofs.Steps.{items_here, step_at, sink_at, refuse_at, refuses, like_at, skip_at, followed_at}
 use Rattle.parser.proofs.Build.{grown, not_on, fewer_is, more_is}
-use Rattle.parser.proofs.Keep.{keep_value, keep_values, agree_trans}
+use Rattle.parser.proofs.Keep.{keep_value, keep_values}
 use Rattle.parser.specs.Made.{at, Made, Way, Refused}
 use Rattle.parser.specs.Nodes.{IsValue, IsValues, IsEntry}
 use Rattle.parser.specs.declared.Node.{Node}

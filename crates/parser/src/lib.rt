@@ -6,7 +6,7 @@ ghost use Rattle.parser.specs.Made.{Made, Way, Refused, LevelWay, LevelRefused, 
 ghost use Rattle.parser.specs.Nodes.{IsExpr, IsExprs, IsPrimary, IsTerm, IsVariable, IsComparison, IsSubcondition, IsCondition, IsMode, IsAmode, IsFields, IsValue, IsValues, IsEntry, IsMany, IsName, IsInit};
 ghost use Rattle.grammar.specs.Symbols.{among, Says, STOP, LEFT, RIGHT, NAME, COMMA, REF, ARRAY, PLUS, MINUS};
 ghost use Rattle.grammar.specs.Trees.{Expr, Exprs, Primary, Term, Variable, token, key, of_expr, of_exprs, of_primary, of_term, of_variable, Comparison, Subcondition, Condition, Mode, Amode, of_comparison, of_subcondition, of_condition, of_mode, of_amode, Fields, Value, Values, Entry, of_fields, of_value, of_values, of_entry, Many, Init, of_init, of_inits, of_name, of_names};
-ghost use Rattle.grammar.specs.Machine.{an_expr, a_primary, a_term, tok, each, all, ands, ors, a_mode, an_amode, TheFields, a_value, entries, declareds, unset, set as set-sort, stored, inblock};
+ghost use Rattle.grammar.specs.Machine.{an_expr, a_primary, a_term, tok, each, all, ands, ors, a_mode, an_amode, the_fields, a_value, entries, declareds, unset, set as set-sort, stored, inblock};
 
 use grammar::Symbol;
 
@@ -115,7 +115,7 @@ fn monadic(c: Symbol) -> bool
 }
 
 // '(' expr ')', the bracket being at i
-#[cycle(applied_bracketed_calls_expr_form_level_primary_term_variable)]
+#[cycle(expressions)]
 fn bracketed(
     s: &[Symbol],
     i: usize,
@@ -126,7 +126,7 @@ fn bracketed(
     requires opening { slice_index_or s.now i STOP ≡ LEFT }
     requires within { i < length s.now }
     requires room { used + 2 * length s.now ≤ length nodes.old + 2 * i }
-    ensures* { λ r. ⌜ MatchResult r (λ p. Made 0 (Expr 5) IsExpr (λ e r. token LEFT i ∷ of_expr e (key RIGHT ∷ r)) (Way (tok LEFT ∷ an_expr ∷ tok RIGHT ∷ []) depth s.now i) s.now i used nodes.old nodes.new p × (p.used + 2 * i < 2 * p.next + used)) (λ f. Refused (tok LEFT ∷ an_expr ∷ tok RIGHT ∷ []) depth s.now i f) ⌝ }
+    ensures { MatchResult result (λ p. Made 0 (Expr 5) IsExpr (λ e rest. token LEFT i ∷ of_expr e (key RIGHT ∷ rest)) (Way (tok LEFT ∷ an_expr ∷ tok RIGHT ∷ []) depth s.now i) s.now i used nodes.old nodes.new p × (p.used + 2 * i < 2 * p.next + used)) (λ f. Refused (tok LEFT ∷ an_expr ∷ tok RIGHT ∷ []) depth s.now i f) }
 {
     if depth == 0 {
         return Err(Fault::Deep(i));
@@ -144,7 +144,7 @@ fn bracketed(
 }
 
 // The further parts of a variable that was read from i on up to `at`.
-#[cycle(applied_bracketed_calls_expr_form_level_primary_term_variable)]
+#[cycle(expressions)]
 fn variable(
     s: &[Symbol],
     i: usize,
@@ -186,7 +186,7 @@ fn variable(
 }
 
 // The further expressions of a call whose name is at i, its first expression having been read up to `at`, where a comma is.
-#[cycle(applied_bracketed_calls_expr_form_level_primary_term_variable)]
+#[cycle(expressions)]
 fn calls(
     s: &[Symbol],
     i: usize,
@@ -225,7 +225,7 @@ fn calls(
 }
 
 // A form whose name is at i, a bracket behind it.
-#[cycle(applied_bracketed_calls_expr_form_level_primary_term_variable)]
+#[cycle(expressions)]
 fn applied(
     s: &[Symbol],
     i: usize,
@@ -268,7 +268,7 @@ fn applied(
 }
 
 // A form whose name is at i.
-#[cycle(applied_bracketed_calls_expr_form_level_primary_term_variable)]
+#[cycle(expressions)]
 fn form(
     s: &[Symbol],
     i: usize,
@@ -293,7 +293,7 @@ fn form(
     variable(s, i, depth, nodes, used, at)
 }
 
-#[cycle(applied_bracketed_calls_expr_form_level_primary_term_variable)]
+#[cycle(expressions)]
 fn primary(
     s: &[Symbol],
     i: usize,
@@ -336,7 +336,7 @@ fn primary(
     }
 }
 
-#[cycle(applied_bracketed_calls_expr_form_level_primary_term_variable)]
+#[cycle(expressions)]
 fn term(
     s: &[Symbol],
     i: usize,
@@ -363,7 +363,7 @@ fn term(
 }
 
 // An expression of the level n.
-#[cycle(applied_bracketed_calls_expr_form_level_primary_term_variable)]
+#[cycle(expressions)]
 fn level(
     s: &[Symbol],
     i: usize,
@@ -393,7 +393,7 @@ fn level(
     Ok(at)
 }
 
-#[cycle(applied_bracketed_calls_expr_form_level_primary_term_variable)]
+#[cycle(expressions)]
 fn expr(
     s: &[Symbol],
     i: usize,
@@ -498,7 +498,7 @@ fn condition(
 }
 
 // The mode of an array's elements.
-#[cycle(amode_array_mode_mode_reference)]
+#[cycle(modes)]
 fn amode(
     s: &[Symbol],
     i: usize,
@@ -522,7 +522,7 @@ fn amode(
 }
 
 // A mode that refers to an array, REF being at i, ARRAY behind it.
-#[cycle(amode_array_mode_mode_reference)]
+#[cycle(modes)]
 fn array_mode(
     s: &[Symbol],
     i: usize,
@@ -561,7 +561,7 @@ fn array_mode(
 }
 
 // A mode that begins with REF at i.
-#[cycle(amode_array_mode_mode_reference)]
+#[cycle(modes)]
 fn reference(
     s: &[Symbol],
     i: usize,
@@ -604,7 +604,7 @@ fn reference(
     }
 }
 
-#[cycle(amode_array_mode_mode_reference)]
+#[cycle(modes)]
 fn mode(
     s: &[Symbol],
     i: usize,
@@ -651,7 +651,7 @@ fn further(
     requires there { at.next < length s.now }
     requires room { used + 2 * length s.now ≤ length nodes.old + 2 * i }
     requires begun { Made 0 Fields IsFields of_fields (FieldsWay depth s.now i) s.now i used nodes.old nodes.old at }
-    ensures { MatchResult result (λ p. Made 0 Fields IsFields of_fields (FieldsWay depth s.now i) s.now i used nodes.old nodes.new p × (at.next < p.next)) (λ f. Refused (TheFields ∷ []) depth s.now i f) }
+    ensures { MatchResult result (λ p. Made 0 Fields IsFields of_fields (FieldsWay depth s.now i) s.now i used nodes.old nodes.new p × (at.next < p.next)) (λ f. Refused (the_fields ∷ []) depth s.now i f) }
 {
     if peek(s, at.next + 1) == Symbol::Name {
         nodes[at.used] = Node::AlsoField(at.root, at.next + 1);
@@ -683,7 +683,7 @@ fn fields(
 ) -> Result<Parsed, Fault>
     requires within { i ≤ length s.now }
     requires room { used + 2 * length s.now ≤ length nodes.old + 2 * i }
-    ensures { MatchResult result (λ p. Made 0 Fields IsFields of_fields (Way (TheFields ∷ []) depth s.now i) s.now i used nodes.old nodes.new p) (λ f. Refused (TheFields ∷ []) depth s.now i f) }
+    ensures { MatchResult result (λ p. Made 0 Fields IsFields of_fields (Way (the_fields ∷ []) depth s.now i) s.now i used nodes.old nodes.new p) (λ f. Refused (the_fields ∷ []) depth s.now i f) }
 {
     let m = mode(s, i, depth, nodes, used)?;
     if peek(s, m.next) != Symbol::Name {
@@ -750,7 +750,7 @@ fn minus_signed(
 }
 
 // A list of initial values, its bracket being at i.
-#[cycle(entry_list_value_values)]
+#[cycle(initials)]
 fn list(
     s: &[Symbol],
     i: usize,
@@ -787,7 +787,7 @@ fn list(
 }
 
 // An initial value in a data brick.
-#[cycle(entry_list_value_values)]
+#[cycle(initials)]
 fn value(
     s: &[Symbol],
     i: usize,
@@ -832,7 +832,7 @@ fn value(
 }
 
 // A value of a list, and how often it stands.
-#[cycle(entry_list_value_values)]
+#[cycle(initials)]
 fn entry(
     s: &[Symbol],
     i: usize,
@@ -865,7 +865,7 @@ fn entry(
     })
 }
 
-#[cycle(entry_list_value_values)]
+#[cycle(initials)]
 fn values(
     s: &[Symbol],
     i: usize,

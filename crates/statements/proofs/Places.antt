@@ -4,7 +4,7 @@ use Rattle.grammar.specs.Symbols.{STOP, NAME, VAL, LEFT, DOT, BECOMES}
 use Rattle.grammar.specs.declared.Symbol.{Symbol}
 use Rattle.grammar.specs.Trees.{none, some, Primary, integer, text, variable, call, call_on, paren, Variable, name, element, of_primary, of_variable, Destination, place}
 use Rattle.grammar.specs.Sentences.{items, bad}
-use Rattle.grammar.specs.Machine.{Goal, Tree, Move, shift, skip, refuse, mapped, optional, Link, links, goes, no_parts, named, ClosedOn, parts, start, right, a_source, a_statement, an_expr, a_term, a_primary, links_on, at_links, at_expr, at_dots, final, Seen, just_name, one_index, longer, seen, next_goal, taken, onto_stack, step, void, move}
+use Rattle.grammar.specs.Machine.{Goal, Tree, Move, shift, skip, refuse, mapped, optional, Link, links, goes, no_parts, named, closed_on, parts, start, right, a_source, a_statement, an_expr, a_term, a_primary, links_on, at_links, at_expr, at_dots, final, Seen, just_name, one_index, longer, seen, next_goal, taken, onto_stack, step, void, move}
 use Rattle.grammar.proofs.Steps.{items_here, step_at, refuse_at, refuses, like_at, skip_at, may_skip, mapped_on, expr_at}
 use Rattle.nodes.proofs.Build.{not_on, alike}
 use Rattle.nodes.specs.Made.{at, Refused, Ended, FormWay, FormRefused, by_name}
@@ -28,12 +28,12 @@ mapped_twice f g refuse = refl
 module _ (d : ℕ) (s : List Symbol) (j : ℕ) (α : List Goal) where
   start_on : (x : Seen) → j < length s → get_or s j STOP ≡ BECOMES → at d (next_goal x start ∷ α) s j ≡ at d (a_source ∷ α) s (j + 1)
   start_on (just_name n) h q = step_at d (named start ∷ α) (a_source ∷ α) s j d BECOMES h q refl refl
-  start_on (one_index n i e) h q = step_at d (ClosedOn start ∷ α) (a_source ∷ α) s j d BECOMES h q refl refl
+  start_on (one_index n i e) h q = step_at d (closed_on start ∷ α) (a_source ∷ α) s j d BECOMES h q refl refl
   start_on (longer x) h q = step_at d (parts start ∷ α) (a_source ∷ α) s j d BECOMES h q refl refl
 
   right_on : (x : Seen) → j < length s → get_or s j STOP ≡ BECOMES → at d (next_goal x right ∷ α) s j ≡ at d (a_source ∷ α) s (j + 1)
   right_on (just_name n) h q = step_at d (named right ∷ α) (a_source ∷ α) s j d BECOMES h q refl refl
-  right_on (one_index n i e) h q = step_at d (ClosedOn right ∷ α) (a_source ∷ α) s j d BECOMES h q refl refl
+  right_on (one_index n i e) h q = step_at d (closed_on right ∷ α) (a_source ∷ α) s j d BECOMES h q refl refl
   right_on (longer x) h q = step_at d (parts right ∷ α) (a_source ∷ α) s j d BECOMES h q refl refl
 
   module _ (e : Ended s j) (n : get_or s j STOP ≡ BECOMES → ⊥) where
@@ -45,8 +45,8 @@ module _ (d : ℕ) (s : List Symbol) (j : ℕ) (α : List Goal) where
     start_off (one_index m k x) i = absurd i
     start_off (longer x) i = refuse_at d (parts start ∷ α) s j refl (refuses (parts start) α (get_or s j STOP) (not_on (get_or s j STOP) LEFT _ _ _ e.0 ∙ start_dots))
 
-    pub start_called : at d (ClosedOn start ∷ α) s j ≡ at d α s j
-    start_called = skip_at d (ClosedOn start) α s j none none refl (ap optional (not_on (get_or s j STOP) LEFT _ _ _ e.0 ∙ start_dots))
+    pub start_called : at d (closed_on start ∷ α) s j ≡ at d α s j
+    start_called = skip_at d (closed_on start) α s j none none refl (ap optional (not_on (get_or s j STOP) LEFT _ _ _ e.0 ∙ start_dots))
 
     as_links : (x : Goal) (f : List Link → Tree x) (t : Tree x) → void x ≡ some t → move x (get_or s j STOP) ≡ mapped f (at_links (get_or s j STOP)) → at d (x ∷ α) s j ≡ at d (links_on ∷ α) s j
     as_links x f t v m =
@@ -58,7 +58,7 @@ module _ (d : ℕ) (s : List Symbol) (j : ℕ) (α : List Goal) where
 
     right_off : (x : Seen) → at d (next_goal x right ∷ α) s j ≡ at d (links_on ∷ α) s j
     right_off (just_name m) = as_links (named right) (λ ls. goes ([], links ls)) (goes ([], links [])) refl (not_on (get_or s j STOP) LEFT _ _ _ e.0 ∙ ap (mapped goes) right_dots ∙ mapped_twice goes (λ ls. ([], links ls)) (at_links (get_or s j STOP)))
-    right_off (one_index m k x) = as_links (ClosedOn right) (λ ls. ([], links ls)) ([], links []) refl (not_on (get_or s j STOP) LEFT _ _ _ e.0 ∙ right_dots)
+    right_off (one_index m k x) = as_links (closed_on right) (λ ls. ([], links ls)) ([], links []) refl (not_on (get_or s j STOP) LEFT _ _ _ e.0 ∙ right_dots)
     right_off (longer x) = as_links (parts right) (λ ls. ([], links ls)) ([], links []) refl (not_on (get_or s j STOP) LEFT _ _ _ e.0 ∙ right_dots)
 
 -- which forms are variables

@@ -14,7 +14,7 @@ use grammar::Symbol;
 use nodes::{Fault, Node, Parsed, peek};
 
 /// Declarations of locals, and then statements.
-#[cycle(arm_arms_block_body_branch_otherwise_repeat_sequence_statement_while_loop)]
+#[cycle(statements)]
 pub fn body(
     s: &[Symbol],
     i: usize,
@@ -37,7 +37,7 @@ pub fn body(
 }
 
 /// One statement, and further ones behind semicolons.
-#[cycle(arm_arms_block_body_branch_otherwise_repeat_sequence_statement_while_loop)]
+#[cycle(statements)]
 fn sequence(
     s: &[Symbol],
     i: usize,
@@ -62,7 +62,7 @@ fn sequence(
     Ok(at)
 }
 
-#[cycle(arm_arms_block_body_branch_otherwise_repeat_sequence_statement_while_loop)]
+#[cycle(statements)]
 fn statement(
     s: &[Symbol],
     i: usize,
@@ -94,7 +94,7 @@ fn statement(
 }
 
 /// A block, BLOCK being at i.
-#[cycle(arm_arms_block_body_branch_otherwise_repeat_sequence_statement_while_loop)]
+#[cycle(statements)]
 fn block(
     s: &[Symbol],
     i: usize,
@@ -123,7 +123,7 @@ fn block(
 }
 
 /// A condition at i, THEN, and the statements that are obeyed where it holds.
-#[cycle(arm_arms_block_body_branch_otherwise_repeat_sequence_statement_while_loop)]
+#[cycle(statements)]
 fn arm(
     s: &[Symbol],
     i: usize,
@@ -149,7 +149,7 @@ fn arm(
 }
 
 /// IF, being at i, and what follows it up to ELSE or END, ELSEIF included.
-#[cycle(arm_arms_block_body_branch_otherwise_repeat_sequence_statement_while_loop)]
+#[cycle(statements)]
 fn arms(
     s: &[Symbol],
     i: usize,
@@ -177,7 +177,7 @@ fn arms(
 }
 
 /// ELSE, being at the end of `at`, the statements behind it, and END.
-#[cycle(arm_arms_block_body_branch_otherwise_repeat_sequence_statement_while_loop)]
+#[cycle(statements)]
 fn otherwise(
     s: &[Symbol],
     i: usize,
@@ -207,7 +207,7 @@ fn otherwise(
 }
 
 /// A branch, IF being at i.
-#[cycle(arm_arms_block_body_branch_otherwise_repeat_sequence_statement_while_loop)]
+#[cycle(statements)]
 fn branch(
     s: &[Symbol],
     i: usize,
@@ -239,7 +239,7 @@ fn branch(
 }
 
 /// A loop that counts, TO being at i.
-#[cycle(arm_arms_block_body_branch_otherwise_repeat_sequence_statement_while_loop)]
+#[cycle(statements)]
 fn repeat(
     s: &[Symbol],
     i: usize,
@@ -272,7 +272,7 @@ fn repeat(
 }
 
 /// A loop that goes on while a condition holds, WHILE being at i.
-#[cycle(arm_arms_block_body_branch_otherwise_repeat_sequence_statement_while_loop)]
+#[cycle(statements)]
 fn while_loop(
     s: &[Symbol],
     i: usize,

@@ -1,7 +1,7 @@
 -- What a result decides, and how decisions are put together: nothing here knows the language. Assumes nothing.
-use Rattle.std.proofs.Common.{◌≡◌, ℕ, ◌<◌, ◌≤◌, Bool, true, false, cond, ◌⊎◌, Some, None, Ok, Err, Option, Result, sym, refl, subst, inl, inr, arith}
+use Rattle.std.proofs.Common.{◌≡◌, ℕ, ◌<◌, ◌≤◌, Bool, true, false, ◌⊎◌, Some, None, Ok, Err, Option, Result, sym, refl, subst, inl, inr, arith}
 use Rattle.statics.specs.declared.Refusal.{Refusal}
-use Rattle.statics.specs.Laws.{Wrongs, Never, At, Both, Under, Lacks, Clean, Pair, Earliest, Verdict}
+use Rattle.statics.specs.Laws.{Wrongs, Never, Both, Under, Lacks, Clean, Pair, Verdict}
 use Rattle.statics.specs.Order.{Span}
 use Rattle.statics.specs.JudgeExpressions.{then, must, done}
 

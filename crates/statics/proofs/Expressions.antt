@@ -1,16 +1,16 @@
 -- Expressions and conditions are judged right, construct by construct. Assumes nothing.
-use Rattle.std.proofs.Common.{◌≡◌, ℕ, suc, ◌+◌, ◌<◌, ◌≤◌, Bool, true, false, cond, ◌⊎◌, List, [], ◌∷◌, length, Some, None, Ok, Err, Option, Result, sym, refl, ap, subst, inl, inr, arith}
+use Rattle.std.proofs.Common.{◌≡◌, ℕ, suc, ◌+◌, ◌<◌, ◌≤◌, Bool, cond, List, [], length, Some, None, Ok, Err, Option, Result, sym, refl, subst, inl, inr, arith}
 use Rattle.statics.specs.declared.Refusal.{Refusal}
-use Rattle.grammar.specs.Trees.{Dyadic, Monadic, Expr, term, up, dyadic, Term, monadic, primary, Primary, integer, text, variable, call, call_on, paren, Variable, name, element, component, Exprs, first, comma, Comparator, equal, unequal, less, at_most, greater, at_least_lem, same_place, other_place, Comparison, compare, Condition, Many, one, more}
+use Rattle.grammar.specs.Trees.{Dyadic, Expr, term, up, dyadic, Term, monadic, primary, Primary, integer, text, variable, call, call_on, paren, Variable, name, element, component, Exprs, first, comma, Comparator, equal, unequal, less, at_most, greater, at_least, same_place, other_place, Comparison, compare, Condition, Many, one, more}
 use Rattle.statics.specs.Modes.{Mode, INT, Thing, value, Need, mode, elements, components, Fits, subscript, referred_record}
-use Rattle.statics.specs.Laws.{Wrongs, Never, Both, Under, Lacks, Clean, Pair}
+use Rattle.statics.specs.Laws.{Wrongs, Never, Both, Lacks, Clean}
 use Rattle.statics.specs.Scopes.{Env, Class, Signature, Head, thing, signature, Called, Stands, Runs, Heads}
 use Rattle.statics.specs.Fronts.{front, front_term, front_primary, front_variable, spot, spot_term, spot_primary}
-use Rattle.statics.specs.Expressions.{Rule, Form, Gives, Off, fixed, named, subscripted, selected, operand, result, operated, argument, outcome, altered, nth, passed, Suits, applied, Yields, called, headed, bracketed, count, figure, string_thing, expr, a_term, a_primary, a_use, a_variable, args, compared, Agree, Operands, comparison, each, condition}
+use Rattle.statics.specs.Expressions.{Rule, Form, Gives, Off, fixed, named, subscripted, selected, operand, result, operated, argument, outcome, nth, passed, applied, Yields, called, headed, bracketed, count, figure, string_thing, expr, a_term, a_primary, a_use, a_variable, args, compared, Agree, Operands, comparison, each, condition}
 use Rattle.statics.specs.Order.{Span, In, InTerm, InPrimary, InVariable, InExprs, InComparison, InMany, InCondition}
-use Rattle.statics.specs.JudgeExpressions.{then, must, bring, look, done, pass, stands, runs, heads, yields, apply, judge_call, judge_head, judge_bracketed, judge_subscript, judge_select, judge, judge_term, judge_primary, judge_use, judge_variable, judge_args, agree, judge_comparison, judge_each, judge_condition}
+use Rattle.statics.specs.JudgeExpressions.{then, must, bring, look, pass, stands, runs, heads, yields, apply, judge_call, judge_head, judge_bracketed, judge_subscript, judge_select, judge, judge_term, judge_primary, judge_use, judge_variable, judge_args, agree, judge_comparison, judge_each, judge_condition}
 use Rattle.statics.proofs.Decide.{Told, yes, no, Tells, found, none, Judged, sure, lacking, like, wider, chain, alone, two, turn, plainly, likewise, next, nothing}
-use Rattle.statics.proofs.Fit.{told_like, eqb_told, same_mode_told, tells_cond, fit_tells}
+use Rattle.statics.proofs.Fit.{eqb_told, same_mode_told, tells_cond, fit_tells}
 use Rattle.statics.proofs.Names.{look_judged, stands_tells, runs_tells, heads_tells, selects_tells}
 
 -- Where the first item, and that of a misfit, lie.
@@ -227,7 +227,7 @@ agree_told unequal m k = yes tt
 agree_told less m k = yes tt
 agree_told at_most m k = yes tt
 agree_told greater m k = yes tt
-agree_told at_least_lem m k = yes tt
+agree_told at_least m k = yes tt
 agree_told same_place m k = same_mode_told m k
 agree_told other_place m k = same_mode_told m k
 

@@ -1,10 +1,10 @@
 -- Tests and options, and what fits. Assumes nothing.
-use Rattle.std.proofs.Common.{◌≡◌, ℕ, suc, ◌<◌, ◌≤◌, Bool, true, false, cond, ◌&&◌, ◌||◌, eqb, ltb, ◌⊎◌, List, [], ◌∷◌, Some, None, Option, sym, refl, ap, ◌∙◌, subst, inl, inr, arith}
+use Rattle.std.proofs.Common.{◌≡◌, ℕ, suc, ◌<◌, Bool, true, false, cond, ◌&&◌, ◌||◌, eqb, ltb, ◌⊎◌, [], ◌∷◌, Some, None, Option, sym, refl, ap, ◌∙◌, subst, inl, inr, arith}
 use Rattle.std.proofs.lemmas.Bool.Decides.{eqb_tells, leb_tells}
 use Rattle.statics.specs.Laws.{Pair}
 use Rattle.statics.specs.Scopes.{same_word}
 use Rattle.statics.specs.Modes.{Word, Plain, int, byte, Mode, plain, ref, ref_record, ref_array, Element, simple, records, Thing, value, place, array, structure, Offers, itself, referred, contents, contents_referred, address, array_address, record_address, Widens, alike, wider, Reference, Need, mode, number, reference, elements, components, scalar, pointed, Fits, widened, wanted, a_number, a_reference, an_array, a_record, a_place, a_pointer}
-use Rattle.statics.specs.JudgeExpressions.{provided, maybe, bind, same_plain, same_mode, same_element, plain_of, number_of, ref_of, widens, only_array, only_record, fit_ref, fit_mode, pointed_at, fit}
+use Rattle.statics.specs.JudgeExpressions.{provided, maybe, bind, same_plain, same_mode, same_element, plain_of, number_of, ref_of, widens, only_array, only_record, fit_ref, fit_mode, fit}
 use Rattle.statics.proofs.Decide.{Told, yes, no, Tells, found, none}
 
 pub told_like : {P Q : Type 0} {b : Bool} → (P → Q) → (Q → P) → Told P b → Told Q b

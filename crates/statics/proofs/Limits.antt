@@ -1,15 +1,15 @@
 -- The stages with one number, and their order. Assumes nothing.
-use Rattle.std.proofs.Common.{◌≡◌, ℕ, suc, ◌+◌, ◌<◌, ◌≤◌, Bool, true, false, cond, ltb, ◌⊎◌, List, [], ◌∷◌, ◌++◌, Some, None, Ok, Err, Option, Result, sym, refl, ap, ◌∙◌, subst, inl, inr, arith}
+use Rattle.std.proofs.Common.{◌≡◌, ℕ, ◌+◌, ◌<◌, ◌≤◌, Bool, cond, ◌⊎◌, List, [], ◌∷◌, ◌++◌, Some, None, Ok, Err, Option, Result, sym, refl, ap, ◌∙◌, inl, inr, arith}
 use Rattle.statics.specs.declared.Refusal.{Refusal}
 use Rattle.grammar.specs.Trees.{Module}
 use Rattle.statics.specs.Laws.{Wrongs, Clean, Any, Earliest, Verdict}
-use Rattle.statics.specs.Scopes.{Text, same_word}
+use Rattle.statics.specs.Scopes.{Text}
 use Rattle.statics.specs.Expressions.{nth}
 use Rattle.statics.specs.Written.{gather}
 use Rattle.statics.specs.Modules.{module_wrongs}
 use Rattle.statics.specs.DeclaredTwice.{scopes, Twice, twice_wrongs}
 use Rattle.statics.specs.Space.{Charge, charges, Passes, space_wrongs}
-use Rattle.statics.specs.Crowds.{Allowance, moditem_allowances, Beyond, locals_wrongs}
+use Rattle.statics.specs.Crowds.{moditem_allowances, Beyond, locals_wrongs}
 use Rattle.statics.specs.Stages.{Staged, Static, Moved, all_moved, moved}
 use Rattle.statics.specs.Order.{InModule}
 use Rattle.statics.specs.JudgeExpressions.{then}

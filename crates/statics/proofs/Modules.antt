@@ -1,21 +1,21 @@
 -- Initial values and module items are judged right. Assumes nothing.
-use Rattle.std.proofs.Common.{◌≡◌, ℕ, suc, ◌+◌, ◌<◌, ◌≤◌, Bool, true, false, cond, ◌&&◌, ◌||◌, eqb, ltb, ◌⊎◌, List, [], ◌∷◌, length, Some, None, Ok, Err, codes, Option, Result, sym, refl, ap, ◌∙◌, subst, inl, inr, arith}
+use Rattle.std.proofs.Common.{◌≡◌, ℕ, ◌+◌, ◌<◌, ◌≤◌, Bool, true, false, ◌&&◌, List, [], ◌∷◌, length, Some, None, codes, Option, Result, refl, ap, arith}
 use Rattle.statics.specs.declared.Refusal.{Refusal}
 use Rattle.grammar.specs.Trees.{Value, constant, signed, minus_signed, identifier, string, empty_list, list, Values, only, and, Entry, once, repeated, Many, one, more, Opt, Fields, also, Init, given, Dec, variables, arrays, structures, Body, Brick, store, procedure, Moditem, blank, external_procs, external_store, own, entry, Module}
 use Rattle.grammar.specs.Trees as tree
-use Rattle.statics.specs.Modes.{Word, Plain, int, byte, Mode, plain, ref, ref_record, ref_array, Element, simple, records, INT, BYTE, Thing}
-use Rattle.statics.specs.Laws.{Wrongs, Never, At, Both, Under, Lacks, Clean}
-use Rattle.statics.specs.Scopes.{Text, Env, same_word, Called, Keeps, Signature, record_modes}
+use Rattle.statics.specs.Modes.{Word, int, byte, Mode, plain, ref, ref_record, ref_array, Element, simple, records, INT, BYTE, Thing}
+use Rattle.statics.specs.Laws.{Wrongs, Lacks}
+use Rattle.statics.specs.Scopes.{Text, Env, Keeps, Signature, record_modes}
 use Rattle.statics.specs.Expressions.{each}
-use Rattle.statics.specs.Written.{mode_of, element_of, written, record_name}
+use Rattle.statics.specs.Written.{mode_of, element_of}
 use Rattle.statics.specs.Statements.{Starts}
 use Rattle.statics.specs.Values.{Want, free, simply, several, recorded, inner, TakesInteger, address_mode, TakesName, TakesString, TakesList, Repeats, total, how_many, front_value, ThenAsk, initial, listed, an_entry, AllStart, ElementStarts, Valueless}
-use Rattle.statics.specs.Modules.{maybe_mode_lem, modes, maybe_written, modes_written, fields_written, parameters_written, Admitted, data_item, data_dec, in_record, in_procedure, outermost, a_brick, moditem, module_env, module_wrongs}
-use Rattle.statics.specs.Order.{Span, InMany, InMode, InElement, InName, InInit, InValue, InValues, InEntry, InDec, InOpt, InFields, InBrick, InModitem, InModule}
-use Rattle.statics.specs.JudgeExpressions.{then, must, look, keeps, same_mode, same_element, judge_each}
-use Rattle.statics.specs.JudgeStatements.{judge_written, judge_element, judge_record_name}
+use Rattle.statics.specs.Modules.{maybe_mode, modes, maybe_written, modes_written, fields_written, parameters_written, Admitted, data_item, data_dec, in_record, in_procedure, outermost, a_brick, moditem, module_env, module_wrongs}
+use Rattle.statics.specs.Order.{Span, InMany, InMode, InName, InInit, InValue, InValues, InEntry, InDec, InOpt, InFields, InBrick, InModitem, InModule}
+use Rattle.statics.specs.JudgeExpressions.{then, must, keeps, judge_each}
+use Rattle.statics.specs.JudgeStatements.{judge_written}
 use Rattle.statics.specs.JudgeModules.{holds, takes_integer, is_mode, takes_name, takes_string, takes_list, repeats, judge_value, judge_values, judge_entry, is_plain, all_plain, element_starts, valueless, judge_opt, judge_fields, no_modes, one_byte, no_mode, admitted, judge_data_item, judge_data_dec, judge_brick, judge_moditem, judge_module}
-use Rattle.statics.proofs.Decide.{Told, yes, no, Tells, found, none, Judged, lacking, like, wider, chain, likewise, next, nothing}
+use Rattle.statics.proofs.Decide.{Told, yes, no, lacking, wider, chain, likewise, next, nothing}
 use Rattle.statics.proofs.Fit.{told_like, told_and, told_or, eqb_told, ltb_told, same_word_told, same_mode_told, same_element_told}
 use Rattle.statics.proofs.Names.{look_judged, keeps_tells}
 use Rattle.statics.proofs.Expressions.{Checks, unit_tells, each_right, many_le}
@@ -263,7 +263,7 @@ moditem_right Γ (external_procs k ms m ns) lo hi i =
     let h = many_le InName name_le ns j.0 hi j.2 in
     next (opt_le (InMany InMode) (many_le InMode mode_le) ms lo i.0 i.1) (omega arith) (modes_right Γ ms lo i.0 i.1)
     (next g h (maybe_right Γ m i.0 j.0 j.1)
-    (each_right _ _ InName name_le (λ n lo hi q. tested lo hi 10 n q (admitted_told (Γ.text.word n) (record { takes = modes Γ.text ms; gives = maybe_mode_lem Γ.text m }))) ns j.0 hi j.2))
+    (each_right _ _ InName name_le (λ n lo hi q. tested lo hi 10 n q (admitted_told (Γ.text.word n) (record { takes = modes Γ.text ms; gives = maybe_mode Γ.text m }))) ns j.0 hi j.2))
 moditem_right Γ (external_store n ds) lo hi i = likewise _ (λ k p w. w) (λ k p w. w) (refusing lo hi 10 n i)
 moditem_right Γ (tree.record_mode n k fs) lo hi i = wider lo hi (omega (arith, i.0)) (omega arith) (fields_right (in_record Γ fs) fs (n + 1) hi i.1)
 moditem_right Γ (own b) lo hi i = brick_right Γ b lo hi i

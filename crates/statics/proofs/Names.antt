@@ -1,10 +1,10 @@
 -- What a name means. Assumes nothing.
-use Rattle.std.proofs.Common.{◌≡◌, ℕ, zero, suc, ◌<◌, ◌≤◌, Bool, true, false, cond, ◌&&◌, ltb, ◌⊎◌, length, get_or, Some, None, Option, sym, refl, ap, subst, inl, inr, arith}
+use Rattle.std.proofs.Common.{◌≡◌, ℕ, zero, suc, ◌<◌, Bool, true, false, cond, ◌⊎◌, length, get_or, Some, Option, refl, ap, subst, inl, inr, arith}
 use Rattle.statics.specs.Modes.{Word, Thing, place}
-use Rattle.statics.specs.Laws.{Pair, Lacks}
-use Rattle.statics.specs.Scopes.{same_word, Env, Class, record_mode, brick, stored, local, routine, part, Signature, Head, thing, signature, nobody, class_at, component_at, LastOf, Means, Called, Stands, Keeps, Runs, Heads, Shapes, Belongs, Selects}
+use Rattle.statics.specs.Laws.{Lacks}
+use Rattle.statics.specs.Scopes.{Env, Class, record_mode, brick, stored, local, routine, part, Signature, Head, thing, signature, nobody, class_at, component_at, LastOf, Means, Called, Stands, Keeps, Runs, Heads, Shapes, Belongs, Selects}
 use Rattle.statics.specs.Order.{Span}
-use Rattle.statics.specs.JudgeExpressions.{seek, called_at, look, stands, keeps, runs, heads, shapes, selects, maybe}
+use Rattle.statics.specs.JudgeExpressions.{seek, called_at, look, stands, keeps, runs, heads, shapes, selects}
 use Rattle.statics.proofs.Decide.{Told, yes, no, Tells, found, none, Judged, lacking}
 use Rattle.statics.proofs.Fit.{told_and, ltb_told, same_word_told, tells_like, tells_if, tells_maybe, tells_bind}
 

@@ -1,11 +1,11 @@
 -- The items of a tree that is made of those of a text lie in the order of the text. Assumes nothing.
-use Rattle.std.proofs.Common.{◌≡◌, ℕ, suc, ◌+◌, ◌<◌, ◌≤◌, Bool, true, false, cond, List, [], ◌∷◌, ◌++◌, sym, refl, ap, ◌∙◌, subst, arith}
-use Rattle.grammar.specs.Symbols.{NAME, INTEGER, TEXT, LEFT, VAL, RETURN, COMMA, BECOMES, SEMI, AND, OR}
+use Rattle.std.proofs.Common.{◌≡◌, ℕ, suc, ◌+◌, ◌≤◌, true, cond, List, [], ◌∷◌, refl, arith}
+use Rattle.grammar.specs.Symbols.{COMMA, BECOMES, SEMI, AND, OR}
 use Rattle.grammar.specs.declared.Symbol.{Symbol}
 use Rattle.grammar.specs.Trees.{Token, token, kept, mark, key, Spelling, Expr, term, up, dyadic, Term, monadic, primary, Primary, integer, text, variable, call, call_on, paren, Variable, name, element, component, Exprs, first, comma, Comparison, compare, Many, one, more, Opt, Init, given, Local, Locals, no_locals, locals, Destination, val, Body, body, Sequence, single, sequel, Statement, dummy, block, assign, invoke, invoke_on, branch, branch_else, repeat, loop, return, return_with, Arms, when, elsewhen, Value, constant, signed, minus_signed, identifier, string, empty_list, list, Values, only, and, Entry, once, repeated, Dec, variables, arrays, structures, Fields, also, Brick, store, procedure, Moditem, blank, external_procs, external_store, own, entry, Module, spell, spell_monadic, spell_comparator, of_many, of_opt, of_name, of_names, of_expr, of_term, of_primary, of_variable, of_exprs, of_comparison, of_subcondition, of_condition, of_mode, of_amode, of_fields, of_init, of_inits, of_value, of_values, of_entry, of_dec, of_local, of_locals, of_destination, of_body, of_sequence, of_statement, of_arms, of_brick, of_moditem, of_module}
 use Rattle.grammar.specs.Trees as tree
 use Rattle.grammar.specs.Sentences.{items, Made}
-use Rattle.statics.specs.Order.{Span, In, InTerm, InPrimary, InVariable, InExprs, InComparison, InMany, InCondition, InMode, InElement, InName, InInit, InLocal, InLocals, InDestination, InBody, InSequence, InStatement, InArms, InValue, InValues, InEntry, InDec, InOpt, InFields, InBrick, InModitem, InModule}
+use Rattle.statics.specs.Order.{In, InTerm, InPrimary, InVariable, InExprs, InComparison, InMany, InCondition, InMode, InElement, InName, InInit, InLocal, InLocals, InDestination, InBody, InSequence, InStatement, InArms, InValue, InValues, InEntry, InDec, InOpt, InFields, InBrick, InModitem, InModule}
 
 -- one item read
 pub record Took (c : Symbol) (n : ℕ) (r : List Token) (k : ℕ) : Type 0 where

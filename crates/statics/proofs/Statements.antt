@@ -1,19 +1,19 @@
 -- Blocks and statements are judged right. Assumes nothing.
-use Rattle.std.proofs.Common.{◌≡◌, ℕ, suc, ◌+◌, ◌<◌, ◌≤◌, Bool, true, false, cond, ◌⊎◌, List, [], ◌∷◌, length, Some, None, Ok, Err, Option, Result, sym, refl, ap, subst, inl, inr, arith}
+use Rattle.std.proofs.Common.{◌≡◌, ℕ, ◌+◌, ◌≤◌, Bool, ◌⊎◌, length, Some, None, Option, Result, sym, refl, subst, inl, inr, arith}
 use Rattle.statics.specs.declared.Refusal.{Refusal}
 use Rattle.grammar.specs.Trees.{Expr, Variable, Exprs, Many, one, more, Init, given, Local, Locals, no_locals, locals, Destination, val, Body, body, Sequence, single, sequel, Statement, dummy, block, assign, invoke, invoke_on, branch, branch_else, repeat, loop, return, return_with, Arms, when, elsewhen}
 use Rattle.grammar.specs.Trees as tree
-use Rattle.statics.specs.Modes.{Mode, plain, ref, ref_record, ref_array, INT, Thing, mode}
-use Rattle.statics.specs.Laws.{Wrongs, Never, At, Both, Under, Lacks, Clean, Pair}
-use Rattle.statics.specs.Scopes.{Env, Called, Shapes, after}
+use Rattle.statics.specs.Modes.{Mode, plain, ref, ref_record, ref_array, INT, mode}
+use Rattle.statics.specs.Laws.{Wrongs, At, Both, Lacks, Clean}
+use Rattle.statics.specs.Scopes.{Env, Shapes, after}
 use Rattle.statics.specs.Fronts.{spot, front_variable, front_destination, front_destinations}
-use Rattle.statics.specs.Expressions.{Rule, Form, Gives, Off, expr, a_variable, args, called, count, condition}
+use Rattle.statics.specs.Expressions.{Form, Gives, Off, expr, a_variable, count, condition}
 use Rattle.statics.specs.Written.{mode_of, record_name, written, written_element, list_names}
 use Rattle.statics.specs.Statements.{into, Starts, local_item, local_items, local_dec, local_decs, entries, inside, ready_inside, aim, aimed, Joined, targets, Silent, a_body, sequence, statement, arms}
-use Rattle.statics.specs.Order.{Span, In, InVariable, InExprs, InMany, InCondition, InMode, InElement, InName, InInit, InLocal, InLocals, InDestination, InBody, InSequence, InStatement, InArms}
-use Rattle.statics.specs.JudgeExpressions.{then, must, provided, bring, done, shapes, same_mode, judge, judge_variable, judge_args, judge_call, judge_condition}
+use Rattle.statics.specs.Order.{Span, In, InVariable, InMany, InCondition, InMode, InElement, InName, InInit, InLocal, InLocals, InDestination, InBody, InSequence, InStatement, InArms}
+use Rattle.statics.specs.JudgeExpressions.{then, must, provided, bring, done, shapes, judge, judge_variable, judge_condition}
 use Rattle.statics.specs.JudgeStatements.{judge_record_name, judge_written, judge_element, judge_into, starts, judge_local_item, judge_local_items, judge_local_dec, judge_local_decs, join, judge_target, judge_targets, silent, judge_body, judge_sequence, judge_statement, judge_arms}
-use Rattle.statics.proofs.Decide.{Told, yes, no, Tells, found, none, Judged, sure, lacking, like, wider, chain, alone, two, turn, plainly, likewise, next, nothing}
+use Rattle.statics.proofs.Decide.{Told, yes, no, Tells, found, none, Judged, lacking, like, wider, chain, alone, two, turn, plainly, likewise, next, nothing}
 use Rattle.statics.proofs.Fit.{same_mode_told}
 use Rattle.statics.proofs.Names.{look_judged, shapes_tells}
 use Rattle.statics.proofs.Expressions.{Right, Checks, brought, front_in, spot_in, front_variable_in, exprs_le, many_le, condition_le, expr_right, variable_right, args_right, args_inner, called_right, condition_right}

@@ -1,7 +1,7 @@
 -- The rules of expressions and conditions: what a form stands for, and what is wrong with it. Assumes nothing.
 use Rattle.std.specs.Prelude.{◌≡◌, ℕ, zero, suc, Bool, true, false, cond, ◌&&◌, List, [], ◌∷◌, length, Some, None, Option, nat_lt}
-use Rattle.grammar.specs.Trees.{Dyadic, times, divide, modulo, land, lor, nev, plus, minus, Monadic, positive, negative, absolute, complement, narrow, size, Expr, term, up, dyadic, Term, monadic, primary, Primary, integer, text, variable, call, call_on, paren, Variable, name, element, component, Exprs, first, comma, Comparator, equal, unequal, less, at_most, greater, at_least_lem, same_place, other_place, Comparison, compare, Subcondition, Condition, Many, one, more}
-use Rattle.statics.specs.Modes.{Plain, int, byte, Mode, plain, ref, ref_record, ref_array, simple, INT, BYTE, Thing, value, Need, mode, number, reference, elements, components, Fits, subscript, referred_record}
+use Rattle.grammar.specs.Trees.{Dyadic, times, divide, modulo, land, lor, nev, plus, minus, Monadic, positive, negative, absolute, complement, narrow, size, Expr, term, up, dyadic, Term, monadic, primary, Primary, integer, text, variable, call, call_on, paren, Variable, name, element, component, Exprs, first, comma, Comparator, equal, unequal, less, at_most, greater, at_least, same_place, other_place, Comparison, compare, Condition, Many, one, more}
+use Rattle.statics.specs.Modes.{int, byte, Mode, plain, ref, ref_record, ref_array, simple, INT, BYTE, Thing, value, Need, mode, number, reference, elements, components, Fits, subscript, referred_record}
 use Rattle.statics.specs.Laws.{Wrongs, Never, Both, Under, Lacks, Clean, Pair}
 use Rattle.statics.specs.Scopes.{Env, Class, Signature, Head, thing, signature, Called, Stands, Runs, Heads, Selects}
 use Rattle.statics.specs.Fronts.{front, spot, spot_term, front_variable}
@@ -196,7 +196,7 @@ compared unequal = number
 compared less = mode INT
 compared at_most = mode INT
 compared greater = mode INT
-compared at_least_lem = mode INT
+compared at_least = mode INT
 compared same_place = reference
 compared other_place = reference
 
@@ -206,7 +206,7 @@ Agree unequal m k = Unit {0}
 Agree less m k = Unit {0}
 Agree at_most m k = Unit {0}
 Agree greater m k = Unit {0}
-Agree at_least_lem m k = Unit {0}
+Agree at_least m k = Unit {0}
 Agree same_place m k = m ≡ k
 Agree other_place m k = m ≡ k
 

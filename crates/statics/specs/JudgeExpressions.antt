@@ -1,7 +1,7 @@
 -- The judging of expressions and conditions as functions: the first wrong met from left to right. Theorems says that it is right.
-use Rattle.std.specs.Prelude.{ℕ, zero, suc, Bool, true, false, cond, ◌&&◌, List, [], ◌∷◌, length, Some, None, Ok, Err, Option, Result, ◌==◌, nat_lt, slice_index_or}
+use Rattle.std.specs.Prelude.{ℕ, zero, suc, Bool, true, false, cond, ◌&&◌, List, length, Some, None, Ok, Err, Option, Result, ◌==◌, nat_lt, slice_index_or}
 use Rattle.statics.specs.declared.Refusal.{Refusal}
-use Rattle.grammar.specs.Trees.{Dyadic, Monadic, Expr, term, up, dyadic, Term, monadic, primary, Primary, integer, text, variable, call, call_on, paren, Variable, name, element, component, Exprs, first, comma, Comparator, equal, unequal, less, at_most, greater, at_least_lem, same_place, other_place, Comparison, compare, Condition, Many, one, more}
+use Rattle.grammar.specs.Trees.{Expr, term, up, dyadic, Term, monadic, primary, Primary, integer, text, variable, call, call_on, paren, Variable, name, element, component, Exprs, first, comma, Comparator, equal, unequal, less, at_most, greater, at_least, same_place, other_place, Comparison, compare, Condition, Many, one, more}
 use Rattle.statics.specs.Modes.{Word, Plain, int, byte, Mode, plain, ref, ref_record, ref_array, Element, simple, records, INT, Thing, value, place, array, structure, Need, mode, number, reference, elements, components, scalar, pointed, subscript, referred_record}
 use Rattle.statics.specs.Scopes.{Env, same_word, Class, record_mode, brick, stored, local, routine, part, Signature, Head, thing, signature, nobody, class_at, component_at}
 use Rattle.statics.specs.Fronts.{front, spot, spot_term, front_variable}
@@ -264,7 +264,7 @@ agree unequal m k = true
 agree less m k = true
 agree at_most m k = true
 agree greater m k = true
-agree at_least_lem m k = true
+agree at_least m k = true
 agree same_place m k = same_mode m k
 agree other_place m k = same_mode m k
 

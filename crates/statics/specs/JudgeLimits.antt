@@ -1,5 +1,5 @@
 -- The judging of a whole module as a function. Theorems says that it is right.
-use Rattle.std.specs.Prelude.{ℕ, ◌+◌, Bool, true, false, cond, List, [], ◌∷◌, ◌++◌, Some, None, Ok, Err, Option, Result, nat_lt}
+use Rattle.std.specs.Prelude.{ℕ, ◌+◌, cond, List, [], ◌∷◌, ◌++◌, Some, None, Ok, Err, Option, Result, nat_lt}
 use Rattle.statics.specs.declared.Refusal.{Refusal}
 use Rattle.grammar.specs.Trees.{Module}
 use Rattle.statics.specs.Scopes.{Text, same_word}

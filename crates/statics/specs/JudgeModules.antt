@@ -1,15 +1,15 @@
 -- The judging of initial values and module items as functions. Theorems says that it is right.
-use Rattle.std.specs.Prelude.{ℕ, Bool, true, false, cond, ◌&&◌, ◌||◌, List, [], ◌∷◌, length, Some, None, Ok, Err, codes, Option, Result, ◌==◌, nat_lt}
+use Rattle.std.specs.Prelude.{ℕ, Bool, true, false, cond, ◌&&◌, ◌||◌, List, [], ◌∷◌, length, Some, None, Ok, codes, Option, Result, ◌==◌, nat_lt}
 use Rattle.statics.specs.declared.Refusal.{Refusal}
 use Rattle.grammar.specs.Trees.{Value, constant, signed, minus_signed, identifier, string, empty_list, list, Values, only, and, Entry, once, repeated, Many, one, more, Opt, Fields, also, Init, given, Dec, variables, arrays, structures, Brick, store, procedure, Moditem, blank, external_procs, external_store, own, entry, Module}
 use Rattle.grammar.specs.Trees as tree
-use Rattle.statics.specs.Modes.{Word, Plain, int, byte, Mode, plain, ref, ref_record, ref_array, Element, simple, records, INT, BYTE, Thing}
+use Rattle.statics.specs.Modes.{Word, int, byte, Mode, plain, ref, ref_record, ref_array, Element, simple, records, INT, BYTE, Thing}
 use Rattle.statics.specs.Scopes.{Text, Env, same_word, Signature, record_modes}
 use Rattle.statics.specs.Written.{mode_of, element_of}
 use Rattle.statics.specs.Values.{Want, free, simply, several, recorded, inner, address_mode, total, how_many, front_value}
-use Rattle.statics.specs.Modules.{maybe_mode_lem, modes, in_record, in_procedure, outermost, module_env}
+use Rattle.statics.specs.Modules.{maybe_mode, modes, in_record, in_procedure, outermost, module_env}
 use Rattle.statics.specs.JudgeExpressions.{then, must, look, keeps, same_mode, same_element, judge_each}
-use Rattle.statics.specs.JudgeStatements.{judge_record_name, judge_written, judge_element, judge_body, starts}
+use Rattle.statics.specs.JudgeStatements.{judge_record_name, judge_written, judge_element, judge_body}
 
 -- that a test passes, or the number k at p
 abbrev pub holds : Bool → Option (Unit {0})
@@ -136,7 +136,7 @@ abbrev pub judge_moditem : Env → Moditem → Result (Unit {0}) Refusal
 judge_moditem Γ blank = Ok tt
 judge_moditem Γ (external_procs i ms m ns) =
     then (judge_opt (judge_each (judge_written Γ)) ms)
-    (λ u. then (judge_opt (judge_written Γ) m) (λ v. judge_each (λ n. must 10 n (holds (admitted (Γ.text.word n) (record { takes = modes Γ.text ms; gives = maybe_mode_lem Γ.text m })))) ns))
+    (λ u. then (judge_opt (judge_written Γ) m) (λ v. judge_each (λ n. must 10 n (holds (admitted (Γ.text.word n) (record { takes = modes Γ.text ms; gives = maybe_mode Γ.text m })))) ns))
 judge_moditem Γ (external_store n ds) = must 10 n None
 judge_moditem Γ (tree.record_mode n i fs) = judge_fields (in_record Γ fs) fs
 judge_moditem Γ (own b) = judge_brick Γ b

@@ -1,5 +1,5 @@
 -- Modes, what an expression stands for, and what that can be brought to. Assumes nothing.
-use Rattle.std.specs.Prelude.{ℕ, Bool, true, false, List, []}
+use Rattle.std.specs.Prelude.{ℕ, Bool, true, List, []}
 
 -- a name's bytes, its letters in capitals
 abbrev pub Word : Type 0

@@ -2,9 +2,9 @@
 use Rattle.std.specs.Prelude.{◌≡◌, ℕ, ◌+◌, true, ◌⊎◌, List, [], ◌∷◌, ◌++◌, map, length, Some, None, codes, Option}
 use Rattle.grammar.specs.Trees.{Many, one, more, Opt, Fields, also, Init, given, Value, Dec, variables, arrays, structures, Locals, Body, body, Brick, store, procedure, Moditem, blank, external_procs, external_store, own, entry, Module}
 use Rattle.grammar.specs.Trees as tree
-use Rattle.statics.specs.Modes.{Word, Mode, INT, BYTE, Thing, place, array, structure}
+use Rattle.statics.specs.Modes.{Word, Mode, INT, BYTE, place, array, structure}
 use Rattle.statics.specs.Laws.{Wrongs, Never, At, Both, Lacks}
-use Rattle.statics.specs.Scopes.{Text, Env, Class, record_mode, brick, stored, local, routine, part, Signature, Component, inside_of}
+use Rattle.statics.specs.Scopes.{Text, Env, record_mode, brick, stored, local, routine, part, Signature, Component, inside_of}
 use Rattle.statics.specs.Expressions.{each}
 use Rattle.statics.specs.Written.{mode_of, element_of, record_name, written, written_element, gather, list_names, Site, site, declare}
 use Rattle.statics.specs.Statements.{a_body, inside}
@@ -29,9 +29,9 @@ abbrev pub parameters : Text → Opt Fields → List Field
 parameters x tree.none = []
 parameters x (tree.some fs) = fields x fs
 
-abbrev pub maybe_mode_lem : Text → Opt tree.Mode → Option Mode
-maybe_mode_lem x tree.none = None
-maybe_mode_lem x (tree.some m) = Some (mode_of x m)
+abbrev pub maybe_mode : Text → Opt tree.Mode → Option Mode
+maybe_mode x tree.none = None
+maybe_mode x (tree.some m) = Some (mode_of x m)
 
 abbrev pub modes : Text → Opt (Many tree.Mode) → List Mode
 modes x tree.none = []
@@ -49,11 +49,11 @@ dec_names x f (structures n i) = map (site (stored (structure (x.word n)))) (f i
 
 abbrev pub brick_names : Text → Brick → List Site
 brick_names x (store n ds) = site brick n ∷ gather (dec_names x list_names) ds
-brick_names x (procedure n i ps m b e) = site (routine (record { takes = map (λ f. f.mode) (parameters x ps); gives = maybe_mode_lem x m })) n ∷ []
+brick_names x (procedure n i ps m b e) = site (routine (record { takes = map (λ f. f.mode) (parameters x ps); gives = maybe_mode x m })) n ∷ []
 
 abbrev pub moditem_names : Text → Moditem → List Site
 moditem_names x blank = []
-moditem_names x (external_procs i ms m ns) = map (site (routine (record { takes = modes x ms; gives = maybe_mode_lem x m }))) (names_of ns)
+moditem_names x (external_procs i ms m ns) = map (site (routine (record { takes = modes x ms; gives = maybe_mode x m }))) (names_of ns)
 moditem_names x (external_store n ds) = site brick n ∷ gather (dec_names x names_of) ds
 moditem_names x (tree.record_mode n i fs) = site record_mode n ∷ []
 moditem_names x (own b) = brick_names x b
@@ -121,7 +121,7 @@ in_procedure Γ ps m = record {
   names = Γ.names ++ map (λ f. declare Γ.text (site (local f.mode) f.item)) (parameters Γ.text ps);
   ready = Γ.ready + length (parameters Γ.text ps);
   parts = Γ.parts;
-  result = maybe_mode_lem Γ.text m;
+  result = maybe_mode Γ.text m;
 }
 
 abbrev pub outermost : Env → Body → Env
@@ -135,7 +135,7 @@ a_brick Γ (procedure n i ps m b e) =
 abbrev pub moditem : Env → Moditem → Wrongs
 moditem Γ blank = Never
 moditem Γ (external_procs i ms m ns) =
-    Both (modes_written Γ ms) (Both (maybe_written Γ m) (each (λ n. Lacks (Admitted (Γ.text.word n) (record { takes = modes Γ.text ms; gives = maybe_mode_lem Γ.text m })) 10 n) ns))
+    Both (modes_written Γ ms) (Both (maybe_written Γ m) (each (λ n. Lacks (Admitted (Γ.text.word n) (record { takes = modes Γ.text ms; gives = maybe_mode Γ.text m })) 10 n) ns))
 moditem Γ (external_store n ds) = At 10 n
 moditem Γ (tree.record_mode n i fs) = fields_written (in_record Γ fs) fs
 moditem Γ (own b) = a_brick Γ b

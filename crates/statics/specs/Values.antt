@@ -1,7 +1,7 @@
 -- The rules of initial values in a data brick. Assumes nothing.
 use Rattle.std.specs.Prelude.{◌≡◌, ℕ, suc, ◌+◌, ◌<◌, Bool, true, false, ◌⊎◌, List, [], ◌∷◌, length, Some, None, Option}
 use Rattle.grammar.specs.Trees.{Value, constant, signed, minus_signed, identifier, string, empty_list, list, Values, only, and, Entry, once, repeated}
-use Rattle.statics.specs.Modes.{Word, Plain, int, byte, Mode, plain, ref, ref_record, ref_array, Element, simple, records, BYTE, Thing, value, place, array, structure}
+use Rattle.statics.specs.Modes.{Word, int, byte, Mode, plain, ref, ref_record, ref_array, Element, simple, records, BYTE, Thing, value, place, array, structure}
 use Rattle.statics.specs.Laws.{Wrongs, Both, Under, Lacks, Clean}
 use Rattle.statics.specs.Scopes.{Env, Called, Keeps, record_modes}
 use Rattle.statics.specs.Expressions.{nth}

@@ -2,8 +2,8 @@
 use Rattle.std.specs.Prelude.{ℕ, List, [], ◌∷◌, ◌++◌, map}
 use Rattle.grammar.specs.Trees.{Many, one, more, Init, given}
 use Rattle.grammar.specs.Trees as tree
-use Rattle.statics.specs.Modes.{Plain, int, byte, Mode, plain, ref, ref_record, ref_array, Element, simple, records}
-use Rattle.statics.specs.Laws.{Wrongs, Never, Both, Lacks}
+use Rattle.statics.specs.Modes.{int, byte, Mode, plain, ref, ref_record, ref_array, Element, simple, records}
+use Rattle.statics.specs.Laws.{Wrongs, Never, Lacks}
 use Rattle.statics.specs.Scopes.{Text, Env, Called, Shapes, Class, Declared}
 
 -- Modes go by a record mode's name, known or not.

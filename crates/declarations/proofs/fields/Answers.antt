@@ -2,31 +2,31 @@ use Rattle.std.proofs.Common.{◌≡◌, ◌+◌, ◌-◌, ◌<◌, ◌≤◌, l
 use Rattle.std.proofs.lemmas.Result.{err_from_is_err_and}
 use Rattle.grammar.specs.Symbols.{STOP, NAME, INTEGER, TEXT, PLUS, MINUS, COMMA, LEFT, RIGHT}
 use Rattle.grammar.specs.Machine.{all, entries}
-use Rattle.nodes.proofs.Results.{otherwise, unequal, not_unequal}
+use Rattle.nodes.proofs.Results.{otherwise, differs, agrees}
 use Rattle.nodes.proofs.Build.{far}
 use Rattle.nodes.proofs.Build.{rebased}
 use Rattle.nodes.proofs.Keep.{agree_set, agree_trans}
 use Rattle.declarations.proofs.Components.{first_mode_refused, first_no_name, made_field, fields_end}
 use Rattle.declarations.proofs.fields.Goals as goal
 
-pub returns-in-err-m : goal.returns-in-err-m
-returns-in-err-m c =
-    let p = err_from_is_err_and c.from-residual.result c.from-residual.ensures.1 in
-    rw (p.1, p.2) (first_mode_refused c.args.depth c.args.s.now c.args.i c.args.used _ c.in-err-m.ensures)
+pub returns-in_err-m : goal.returns-in_err-m
+returns-in_err-m c =
+    let p = err_from_is_err_and c.from_residual.result c.from_residual.ensures.1 in
+    rw (p.1, p.2) (first_mode_refused c.args.depth c.args.s.now c.args.i c.args.used _ c.in_err-m.ensures)
 
 pub returns-then-ne : goal.returns-then-ne
 returns-then-ne c =
     let u = c.if-ne.ensures in
-    first_no_name c.args.depth c.args.s.now c.args.i c.args.used _ _ c.in-ok-m.m c.in-ok-m.ensures (λ e. unequal u.0 u.1 u.2 (c.peek.ensures.is ∙ e))
+    first_no_name c.args.depth c.args.s.now c.args.i c.args.used _ _ c.in_ok-m.m c.in_ok-m.ensures (λ e. differs u (c.peek.ensures.is ∙ e))
 
 pub loop-nodes-init : goal.loop-nodes-init
 loop-nodes-init c =
     let u = c.if-ne.ensures in
-    let e = not_unequal u.0 u.1 u.2 in
+    let e = agrees u in
     let h = c.peek.ensures.there (far NAME _ refl e) in
-    rebased 0 _ _ _ _ _ _ _ _ _ _ (λ j l. refl) (made_field c.args.depth c.args.s.now c.args.i c.args.used _ _ c.in-ok-m.m c.in-ok-m.ensures h (sym c.peek.ensures.is ∙ e) (omega (arith, h, c.in-ok-m.ensures)))
+    rebased 0 _ _ _ _ _ _ _ _ _ _ (λ j l. refl) (made_field c.args.depth c.args.s.now c.args.i c.args.used _ _ c.in_ok-m.m c.in_ok-m.ensures h (sym c.peek.ensures.is ∙ e) (omega (arith, h, c.in_ok-m.ensures)))
 
 pub returns : goal.returns
 returns c =
-    let m = c.in-ok-m.ensures in
-    fields_end c.args.depth c.args.s.now c.args.i c.args.used _ _ c.loop-nodes.at c.loop-nodes.invariant _ (agree_trans c.args.used c.args.used _ _ _ (omega arith) m.kept (agree_set c.args.used c.in-ok-m.m.used _ _ (omega (arith, m.more)))) (λ e. c.loop-nodes-test.ensures (c.peek-in-loop-nodes.ensures.is ∙ e))
+    let m = c.in_ok-m.ensures in
+    fields_end c.args.depth c.args.s.now c.args.i c.args.used _ _ c.loop-nodes.at c.loop-nodes.invariant _ (agree_trans c.args.used c.args.used _ _ _ (omega arith) m.kept (agree_set c.args.used c.in_ok-m.m.used _ _ (omega (arith, m.more)))) (λ e. c.loop-nodes-test.ensures.says (c.peek-in-loop-nodes.ensures.is ∙ e))

@@ -2,7 +2,7 @@ use Rattle.std.proofs.Common.{◌≡◌, ◌+◌, ◌-◌, ◌<◌, ◌≤◌, l
 use Rattle.std.proofs.lemmas.Result.{err_from_is_err_and}
 use Rattle.grammar.specs.Symbols.{STOP, NAME, BECOMES}
 use Rattle.grammar.specs.Machine.{stored, inblock}
-use Rattle.nodes.proofs.Results.{unequal, not_unequal}
+use Rattle.nodes.proofs.Results.{differs, agrees}
 use Rattle.nodes.proofs.Build.{far, rebased}
 use Rattle.declarations.proofs.Sharing.{first_name, more_names, no_name, made_plain, init_refused, made_given}
 use Rattle.declarations.proofs.local_init.Goals as goal
@@ -10,23 +10,23 @@ use Rattle.declarations.proofs.local_init.Goals as goal
 pub returns-then-ne : goal.returns-then-ne
 returns-then-ne c =
     let u = c.if-ne.ensures in
-    no_name inblock c.args.depth c.args.s.now c.args.i c.args.used (λ e. unequal u.0 u.1 u.2 (c.peek.ensures.is ∙ e))
+    no_name inblock c.args.depth c.args.s.now c.args.i c.args.used (λ e. differs u (c.peek.ensures.is ∙ e))
 
 pub returns-then-ne-2 : goal.returns-then-ne-2
 returns-then-ne-2 c =
     let u = c.if-ne.ensures in
-    let e = not_unequal u.0 u.1 u.2 in
+    let e = agrees u in
     let h = c.peek.ensures.there (far NAME _ refl e) in
     let w = c.if-ne-2.ensures in
-    made_plain inblock c.args.depth c.args.s.now c.args.i c.args.used c.args.nodes.now h (sym c.peek.ensures.is ∙ e) (λ x. unequal w.0 w.1 w.2 (c.peek-2.ensures.is ∙ x)) (omega (arith, h))
+    made_plain inblock c.args.depth c.args.s.now c.args.i c.args.used c.args.nodes.now h (sym c.peek.ensures.is ∙ e) (λ x. differs w (c.peek-2.ensures.is ∙ x)) (omega (arith, h))
 
-pub returns-in-err-v : goal.returns-in-err-v
-returns-in-err-v c =
-    let p = err_from_is_err_and c.from-residual.result c.from-residual.ensures.1 in
-    rw (p.1, p.2) (init_refused inblock c.args.depth c.args.s.now c.args.i c.args.used _ _ c.shared-n.result c.shared-n.ensures.0 c.shared-n.ensures.1 c.shared-n.ensures.2 _ c.in-err-v.ensures)
+pub returns-in_err-v : goal.returns-in_err-v
+returns-in_err-v c =
+    let p = err_from_is_err_and c.from_residual.result c.from_residual.ensures.1 in
+    rw (p.1, p.2) (init_refused inblock c.args.depth c.args.s.now c.args.i c.args.used _ _ c.shared-n.result c.shared-n.ensures.0 c.shared-n.ensures.1 c.shared-n.ensures.2 _ c.in_err-v.ensures)
 
 pub bounds-nodes-v : goal.bounds-nodes-v
-bounds-nodes-v c = omega (arith, c.in-ok-v.ensures.few, c.in-ok-v.ensures.within, c.shared-n.ensures.2, c.shared-n.auto.nodes, c.expr.auto.nodes, c.requires.room)
+bounds-nodes-v c = omega (arith, c.in_ok-v.ensures.few, c.in_ok-v.ensures.within, c.shared-n.ensures.2, c.shared-n.auto.nodes, c.expr.auto.nodes, c.requires.room)
 
 pub returns : goal.returns
-returns c = made_given inblock c.args.depth c.args.s.now c.args.i c.args.used _ _ c.shared-n.result c.shared-n.ensures.0 c.shared-n.ensures.1 c.shared-n.ensures.2 _ c.in-ok-v.v (omega (arith, c.in-ok-v.ensures.few, c.in-ok-v.ensures.within, c.shared-n.ensures.2, c.shared-n.auto.nodes, c.expr.auto.nodes, c.requires.room)) c.in-ok-v.ensures
+returns c = made_given inblock c.args.depth c.args.s.now c.args.i c.args.used _ _ c.shared-n.result c.shared-n.ensures.0 c.shared-n.ensures.1 c.shared-n.ensures.2 _ c.in_ok-v.v (omega (arith, c.in_ok-v.ensures.few, c.in_ok-v.ensures.within, c.shared-n.ensures.2, c.shared-n.auto.nodes, c.expr.auto.nodes, c.requires.room)) c.in_ok-v.ensures

@@ -16,7 +16,7 @@ loop-nodes-init c =
 
 pub loop-nodes-preserved : goal.loop-nodes-preserved
 loop-nodes-preserved c =
-    let q = c.loop-nodes-test.ensures in
+    let q = c.loop-nodes-test.ensures.says in
     let v = c.loop-nodes.invariant in
     let k = c.loop-nodes.auto.nodes in
     (more_names c.args.s.now c.args.i c.args.used _ c.loop-nodes.nodes c.loop-nodes.at v.0 q (omega (arith, q.2, v.1, k, length-set c.args.nodes.now c.args.used (Name c.args.i))), omega (arith, v.1))
@@ -24,4 +24,4 @@ loop-nodes-preserved c =
 pub returns : goal.returns
 returns c =
     let v = c.loop-nodes.invariant in
-    (rebased 0 _ _ _ _ _ _ _ _ _ _ (agree_trans c.args.used c.args.used _ _ _ (omega arith) (agree_set c.args.used c.args.used c.args.nodes.now _ (omega arith)) v.0.kept) v.0, (λ q. c.loop-nodes-test.ensures q), v.1)
+    (rebased 0 _ _ _ _ _ _ _ _ _ _ (agree_trans c.args.used c.args.used _ _ _ (omega arith) (agree_set c.args.used c.args.used c.args.nodes.now _ (omega arith)) v.0.kept) v.0, (λ q. c.loop-nodes-test.ensures.says q), v.1)

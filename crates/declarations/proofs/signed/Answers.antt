@@ -1,6 +1,6 @@
 use Rattle.std.proofs.Common.{sym, refl, ◌∙◌, arith}
 use Rattle.grammar.specs.Symbols.{INTEGER}
-use Rattle.nodes.proofs.Results.{unequal, not_unequal}
+use Rattle.nodes.proofs.Results.{differs, agrees}
 use Rattle.nodes.proofs.Build.{far}
 use Rattle.declarations.proofs.Initials.{signed_refused, made_plus, made_minus}
 use Rattle.declarations.proofs.signed.Goals.{then-eq, else-eq}
@@ -9,12 +9,12 @@ use Rattle.declarations.proofs.signed.Goals as goal
 pub returns-then-ne : goal.returns-then-ne
 returns-then-ne c =
     let u = c.if-ne.ensures in
-    signed_refused c.args.depth c.args.s.now c.args.i c.args.used c.args.nodes.now c.requires.there c.requires.sign (λ e. unequal u.0 u.1 u.2 (c.peek.ensures.is ∙ e))
+    signed_refused c.args.depth c.args.s.now c.args.i c.args.used c.args.nodes.now c.requires.there c.requires.sign (λ e. differs u (c.peek.ensures.is ∙ e))
 
 pub returns : goal.returns
 returns c =
     let u = c.if-ne.ensures in
-    let e = not_unequal u.0 u.1 u.2 in
+    let e = agrees u in
     let h = c.peek.ensures.there (far INTEGER _ refl e) in
     elim c.if-eq.branch [
       | then-eq w ↦ rw w.nodes-is (made_plus c.args.depth c.args.s.now c.args.i c.args.used c.args.nodes.now c.requires.there c.requires.sign h (sym c.peek.ensures.is ∙ e) (omega (arith, h)) (sym c.peek-2.ensures.is ∙ w.if-eq.ensures))

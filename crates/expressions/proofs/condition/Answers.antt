@@ -6,24 +6,24 @@ use Rattle.nodes.proofs.Build.{far}
 use Rattle.nodes.proofs.Repeat.{ors_list, conditions_begin, starts, first_refused, refused, goes, ends}
 use Rattle.expressions.proofs.condition.Goals as goal
 
-pub returns-in-err-at : goal.returns-in-err-at
-returns-in-err-at c =
-    let p = err_from_is_err_and c.from-residual.result c.from-residual.ensures.1 in
-    rw (p.1, p.2) (first_refused 0 (omega arith) ors_list (all ors) conditions_begin c.args.depth c.args.s.now c.args.i c.args.used _ c.in-err-at.ensures)
+pub returns-in_err-at : goal.returns-in_err-at
+returns-in_err-at c =
+    let p = err_from_is_err_and c.from_residual.result c.from_residual.ensures.1 in
+    rw (p.1, p.2) (first_refused 0 (omega arith) ors_list (all ors) conditions_begin c.args.depth c.args.s.now c.args.i c.args.used _ c.in_err-at.ensures)
 
 pub loop-nodes-init : goal.loop-nodes-init
-loop-nodes-init c = starts 0 (omega arith) ors_list (all ors) conditions_begin c.args.depth c.args.s.now c.args.i c.args.used _ _ c.in-ok-at.at c.in-ok-at.ensures
+loop-nodes-init c = starts 0 (omega arith) ors_list (all ors) conditions_begin c.args.depth c.args.s.now c.args.i c.args.used _ _ c.in_ok-at.at c.in_ok-at.ensures
 
-pub returns-in-err-e : goal.returns-in-err-e
-returns-in-err-e c =
-    let p = err_from_is_err_and c.from-residual-in-err-e.result c.from-residual-in-err-e.ensures.1 in
-    let e = c.loop-nodes-test.ensures in
-    rw (p.1, p.2) (refused 0 (omega arith) ors_list (all ors) conditions_begin c.args.depth c.args.s.now c.args.i c.args.used _ _ c.loop-nodes.at c.loop-nodes.invariant (c.peek.ensures.there (far OR _ refl e)) (sym c.peek.ensures.is ∙ e) _ c.in-err-e.ensures)
+pub returns-in_err-e : goal.returns-in_err-e
+returns-in_err-e c =
+    let p = err_from_is_err_and c.from_residual-in_err-e.result c.from_residual-in_err-e.ensures.1 in
+    let e = c.loop-nodes-test.ensures.says in
+    rw (p.1, p.2) (refused 0 (omega arith) ors_list (all ors) conditions_begin c.args.depth c.args.s.now c.args.i c.args.used _ _ c.loop-nodes.at c.loop-nodes.invariant (c.peek.ensures.there (far OR _ refl e)) (sym c.peek.ensures.is ∙ e) _ c.in_err-e.ensures)
 
 pub loop-nodes-preserved : goal.loop-nodes-preserved
 loop-nodes-preserved c =
-    let e = c.loop-nodes-test.ensures in
-    goes 0 (omega arith) ors_list (all ors) conditions_begin c.args.depth c.args.s.now c.args.i c.args.used _ _ c.loop-nodes.at c.loop-nodes.invariant (c.peek.ensures.there (far OR _ refl e)) (sym c.peek.ensures.is ∙ e) _ c.in-ok-e.e (omega (arith, c.in-ok-e.ensures)) c.in-ok-e.ensures
+    let e = c.loop-nodes-test.ensures.says in
+    goes 0 (omega arith) ors_list (all ors) conditions_begin c.args.depth c.args.s.now c.args.i c.args.used _ _ c.loop-nodes.at c.loop-nodes.invariant (c.peek.ensures.there (far OR _ refl e)) (sym c.peek.ensures.is ∙ e) _ c.in_ok-e.e (omega (arith, c.in_ok-e.ensures)) c.in_ok-e.ensures
 
 pub returns : goal.returns
-returns c = ends 0 (omega arith) ors_list (all ors) conditions_begin c.args.depth c.args.s.now c.args.i c.args.used _ _ c.loop-nodes.at c.loop-nodes.invariant _ c.in-ok-at.ensures.kept (λ e. c.loop-nodes-test.ensures (c.peek.ensures.is ∙ e))
+returns c = ends 0 (omega arith) ors_list (all ors) conditions_begin c.args.depth c.args.s.now c.args.i c.args.used _ _ c.loop-nodes.at c.loop-nodes.invariant _ c.in_ok-at.ensures.kept (λ e. c.loop-nodes-test.ensures.says (c.peek.ensures.is ∙ e))

@@ -3,12 +3,12 @@ use Rattle.std.proofs.lemmas.Result.{err_from_is_err_and}
 use Rattle.modules.proofs.Bricks.{data_refused, made_data}
 use Rattle.modules.proofs.data_brick.Goals as goal
 
-pub returns-in-err-d : goal.returns-in-err-d
-returns-in-err-d c =
-    let p = err_from_is_err_and c.from-residual.result c.from-residual.ensures.1 in
-    rw (p.1, p.2) (data_refused c.args.depth c.args.s.now c.args.i c.args.used c.requires.there c.requires.opening _ c.in-err-d.ensures)
+pub returns-in_err-d : goal.returns-in_err-d
+returns-in_err-d c =
+    let p = err_from_is_err_and c.from_residual.result c.from_residual.ensures.1 in
+    rw (p.1, p.2) (data_refused c.args.depth c.args.s.now c.args.i c.args.used c.requires.there c.requires.opening _ c.in_err-d.ensures)
 
 pub returns : goal.returns
 returns c =
-    let m = c.in-ok-d.ensures in
-    made_data c.args.depth c.args.s.now c.args.i c.args.used c.requires.there c.requires.opening _ _ c.in-ok-d.d (omega (arith, m.few, m.within, c.requires.room)) m
+    let m = c.in_ok-d.ensures in
+    made_data c.args.depth c.args.s.now c.args.i c.args.used c.requires.there c.requires.opening _ _ c.in_ok-d.d (omega (arith, m.few, m.within, c.requires.room)) m

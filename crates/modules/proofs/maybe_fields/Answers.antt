@@ -1,7 +1,7 @@
 use Rattle.std.proofs.Common.{◌≡◌, ◌-◌, true, false, sym, ap, ◌∙◌, arith}
 use Rattle.grammar.specs.Symbols.{among}
 use Rattle.grammar.specs.Trees.{of_fields}
-use Rattle.grammar.specs.Machine.{TheFields, maybe_fields_lem}
+use Rattle.grammar.specs.Machine.{the_fields, maybe_fields}
 use Rattle.grammar.proofs.Right.{clash}
 use Rattle.nodes.specs.Nodes.{IsFields}
 use Rattle.nodes.proofs.Results.{otherwise}
@@ -14,9 +14,9 @@ returns-then-begins-mode c =
     let q : among mode_firsts c.peek.result ≡ true = sym c.begins_mode.ensures ∙ c.if-begins-mode.true in
     let h = c.peek.ensures.there (λ e. clash q (ap (among mode_firsts) e)) in
     let w = fields_there c.args.depth c.args.s.now c.args.i h (ap (among mode_firsts) (sym c.peek.ensures.is) ∙ q) in
-    otherwise c.fields.result (λ p m. present IsFields of_fields maybe_fields_lem TheFields c.args.depth c.args.s.now c.args.i c.args.used w _ _ p m) (λ f r. present_refused IsFields of_fields maybe_fields_lem TheFields c.args.depth c.args.s.now c.args.i c.args.used w f r) c.fields.ensures
+    otherwise c.fields.result (λ p m. present IsFields of_fields maybe_fields the_fields c.args.depth c.args.s.now c.args.i c.args.used w _ _ p m) (λ f r. present_refused IsFields of_fields maybe_fields the_fields c.args.depth c.args.s.now c.args.i c.args.used w f r) c.fields.ensures
 
 pub returns : goal.returns
 returns c =
     let q : among mode_firsts c.peek.result ≡ false = sym c.begins_mode.ensures ∙ c.if-begins-mode.false in
-    absent IsFields of_fields maybe_fields_lem TheFields c.args.depth c.args.s.now c.args.i c.args.used (no_fields_there c.args.depth c.args.s.now c.args.i (ap (among mode_firsts) (sym c.peek.ensures.is) ∙ q)) c.args.nodes.now c.requires.within (omega arith)
+    absent IsFields of_fields maybe_fields the_fields c.args.depth c.args.s.now c.args.i c.args.used (no_fields_there c.args.depth c.args.s.now c.args.i (ap (among mode_firsts) (sym c.peek.ensures.is) ∙ q)) c.args.nodes.now c.requires.within (omega arith)

@@ -3,12 +3,12 @@ use Rattle.std.proofs.lemmas.Result.{err_from_is_err_and}
 use Rattle.modules.proofs.Moditems.{own_refused, made_own}
 use Rattle.modules.proofs.own.Goals as goal
 
-pub returns-in-err-b : goal.returns-in-err-b
-returns-in-err-b c =
-    let p = err_from_is_err_and c.from-residual.result c.from-residual.ensures.1 in
-    rw (p.1, p.2) (own_refused c.args.depth c.args.s.now c.args.i c.args.used c.requires.there c.requires.first _ c.in-err-b.ensures)
+pub returns-in_err-b : goal.returns-in_err-b
+returns-in_err-b c =
+    let p = err_from_is_err_and c.from_residual.result c.from_residual.ensures.1 in
+    rw (p.1, p.2) (own_refused c.args.depth c.args.s.now c.args.i c.args.used c.requires.there c.requires.first _ c.in_err-b.ensures)
 
 pub returns : goal.returns
 returns c =
-    let m = c.in-ok-b.ensures in
-    made_own c.args.depth c.args.s.now c.args.i c.args.used c.requires.there c.requires.first _ _ c.in-ok-b.b (omega (arith, m.1, m.0.within, c.requires.room)) m.0
+    let m = c.in_ok-b.ensures in
+    made_own c.args.depth c.args.s.now c.args.i c.args.used c.requires.there c.requires.first _ _ c.in_ok-b.b (omega (arith, m.1, m.0.within, c.requires.room)) m.0

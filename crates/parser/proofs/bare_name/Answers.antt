@@ -1,6 +1,6 @@
-use Rattle.std.proofs.Common.{◌≡◌, sym, refl, ◌∙◌, arith}
+use Rattle.std.proofs.Common.{sym, refl, ◌∙◌, arith}
 use Rattle.grammar.specs.Symbols.{NAME}
-use Rattle.parser.proofs.Results.{unequal, not_unequal}
+use Rattle.parser.proofs.Results.{differs, agrees}
 use Rattle.parser.proofs.Build.{far}
 use Rattle.parser.proofs.Sharing.{bare_refused, made_bare}
 use Rattle.parser.proofs.bare_name.Goals as goal
@@ -8,11 +8,11 @@ use Rattle.parser.proofs.bare_name.Goals as goal
 pub returns-then-ne : goal.returns-then-ne
 returns-then-ne c =
     let u = c.if-ne.ensures in
-    bare_refused c.args.depth c.args.s.now c.args.i c.args.used (λ e. unequal u.0 u.1 u.2 (c.peek.ensures.is ∙ e))
+    bare_refused c.args.depth c.args.s.now c.args.i c.args.used (λ e. differs u (c.peek.ensures.is ∙ e))
 
 pub returns : goal.returns
 returns c =
     let u = c.if-ne.ensures in
-    let e = not_unequal u.0 u.1 u.2 in
+    let e = agrees u in
     let h = c.peek.ensures.there (far NAME _ refl e) in
     made_bare c.args.depth c.args.s.now c.args.i c.args.used c.args.nodes.now h (sym c.peek.ensures.is ∙ e) (omega (arith, h))

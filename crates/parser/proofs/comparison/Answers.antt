@@ -1,25 +1,25 @@
-use Rattle.std.proofs.Common.{◌≡◌, true, false, sym, refl, ap, ◌∙◌, arith}
+use Rattle.std.proofs.Common.{◌≡◌, true, sym, ap, ◌∙◌, arith}
 use Rattle.std.proofs.lemmas.Result.{err_from_is_err_and}
 use Rattle.grammar.specs.Symbols.{among}
 use Rattle.parser.specs.Made.{comparators}
 use Rattle.parser.proofs.Conditions.{left_refused, no_comparator, right_refused, made_comparison, comparator_there}
 use Rattle.parser.proofs.comparison.Goals as goal
 
-pub returns-in-err-a : goal.returns-in-err-a
-returns-in-err-a c =
-    let p = err_from_is_err_and c.from-residual.result c.from-residual.ensures.1 in
-    rw (p.1, p.2) (left_refused c.args.depth c.args.s.now c.args.i c.args.used _ c.in-err-a.ensures)
+pub returns-in_err-a : goal.returns-in_err-a
+returns-in_err-a c =
+    let p = err_from_is_err_and c.from_residual.result c.from_residual.ensures.1 in
+    rw (p.1, p.2) (left_refused c.args.depth c.args.s.now c.args.i c.args.used _ c.in_err-a.ensures)
 
 pub returns-then-not-comparator : goal.returns-then-not-comparator
-returns-then-not-comparator c = no_comparator c.args.depth c.args.s.now c.args.i c.args.used _ _ c.in-ok-a.a c.in-ok-a.ensures (ap (among comparators) (sym c.peek-c.ensures.is) ∙ sym c.comparator.ensures ∙ c.if-not-comparator.true)
+returns-then-not-comparator c = no_comparator c.args.depth c.args.s.now c.args.i c.args.used _ _ c.in_ok-a.a c.in_ok-a.ensures (ap (among comparators) (sym c.peek-c.ensures.is) ∙ sym c.comparator.ensures ∙ c.if-not-comparator.true)
 
-pub returns-in-err-b : goal.returns-in-err-b
-returns-in-err-b c =
-    let p = err_from_is_err_and c.from-residual-in-err-b.result c.from-residual-in-err-b.ensures.1 in
+pub returns-in_err-b : goal.returns-in_err-b
+returns-in_err-b c =
+    let p = err_from_is_err_and c.from_residual-in_err-b.result c.from_residual-in_err-b.ensures.1 in
     let q : among comparators c.peek-c.result ≡ true = sym c.comparator.ensures ∙ c.if-not-comparator.false in
-    rw (p.1, p.2) (right_refused c.args.depth c.args.s.now c.args.i c.args.used _ _ c.in-ok-a.a c.in-ok-a.ensures (c.peek-c.ensures.there (comparator_there _ q)) (ap (among comparators) (sym c.peek-c.ensures.is) ∙ q) _ c.in-err-b.ensures)
+    rw (p.1, p.2) (right_refused c.args.depth c.args.s.now c.args.i c.args.used _ _ c.in_ok-a.a c.in_ok-a.ensures (c.peek-c.ensures.there (comparator_there _ q)) (ap (among comparators) (sym c.peek-c.ensures.is) ∙ q) _ c.in_err-b.ensures)
 
 pub returns : goal.returns
 returns c =
     let q : among comparators c.peek-c.result ≡ true = sym c.comparator.ensures ∙ c.if-not-comparator.false in
-    made_comparison c.args.depth c.args.s.now c.args.i c.args.used _ _ c.in-ok-a.a c.in-ok-a.ensures (c.peek-c.ensures.there (comparator_there _ q)) (ap (among comparators) (sym c.peek-c.ensures.is) ∙ q) _ c.peek-c.ensures.is _ c.in-ok-b.b (omega (arith, c.in-ok-a.ensures, c.in-ok-b.ensures)) c.in-ok-b.ensures
+    made_comparison c.args.depth c.args.s.now c.args.i c.args.used _ _ c.in_ok-a.a c.in_ok-a.ensures (c.peek-c.ensures.there (comparator_there _ q)) (ap (among comparators) (sym c.peek-c.ensures.is) ∙ q) _ c.peek-c.ensures.is _ c.in_ok-b.b (omega (arith, c.in_ok-a.ensures, c.in_ok-b.ensures)) c.in_ok-b.ensures

@@ -1,32 +1,31 @@
-use Rattle.std.proofs.Common.{◌≡◌, ◌+◌, ◌-◌, ◌<◌, ◌≤◌, length, get_or, sym, refl, ap, ◌∙◌, arith}
+use Rattle.std.proofs.Common.{sym, refl, ◌∙◌, arith}
 use Rattle.std.proofs.lemmas.Result.{err_from_is_err_and}
-use Rattle.grammar.specs.Symbols.{STOP, NAME, INTEGER, TEXT, PLUS, MINUS, COMMA, LEFT, RIGHT}
-use Rattle.grammar.specs.Machine.{all, entries}
-use Rattle.parser.proofs.Results.{otherwise, unequal, not_unequal}
+use Rattle.grammar.specs.Symbols.{NAME}
+use Rattle.parser.proofs.Results.{differs, agrees}
 use Rattle.parser.proofs.Build.{far}
 use Rattle.parser.proofs.Components.{made_also, further_refused, further_no_name, made_next}
 use Rattle.parser.proofs.further.Goals as goal
 
 pub returns-then-eq : goal.returns-then-eq
 returns-then-eq c =
-    let e = c.if-eq.ensures in
+    let e = c.if-eq.ensures.says in
     let h = c.peek.ensures.there (far NAME _ refl e) in
     (made_also c.args.depth c.args.s.now c.args.i c.args.used _ _ c.args.at c.requires.begun c.requires.there c.requires.comma h (sym c.peek.ensures.is ∙ e) (omega (arith, h, c.requires.begun.few)), omega arith)
 
-pub returns-in-err-m : goal.returns-in-err-m
-returns-in-err-m c =
-    let p = err_from_is_err_and c.from-residual.result c.from-residual.ensures.1 in
-    rw (p.1, p.2) (further_refused c.args.depth c.args.s.now c.args.i c.args.used _ _ c.args.at c.requires.begun c.requires.there c.requires.comma (λ e. c.if-eq.ensures (c.peek.ensures.is ∙ e)) _ c.in-err-m.ensures)
+pub returns-in_err-m : goal.returns-in_err-m
+returns-in_err-m c =
+    let p = err_from_is_err_and c.from_residual.result c.from_residual.ensures.1 in
+    rw (p.1, p.2) (further_refused c.args.depth c.args.s.now c.args.i c.args.used _ _ c.args.at c.requires.begun c.requires.there c.requires.comma (λ e. c.if-eq.ensures.says (c.peek.ensures.is ∙ e)) _ c.in_err-m.ensures)
 
 pub returns-then-ne : goal.returns-then-ne
 returns-then-ne c =
     let u = c.if-ne.ensures in
-    further_no_name c.args.depth c.args.s.now c.args.i c.args.used _ _ c.args.at c.requires.begun c.requires.there c.requires.comma (λ e. c.if-eq.ensures (c.peek.ensures.is ∙ e)) _ c.in-ok-m.m c.in-ok-m.ensures (λ e. unequal u.0 u.1 u.2 (c.peek-2.ensures.is ∙ e))
+    further_no_name c.args.depth c.args.s.now c.args.i c.args.used _ _ c.args.at c.requires.begun c.requires.there c.requires.comma (λ e. c.if-eq.ensures.says (c.peek.ensures.is ∙ e)) _ c.in_ok-m.m c.in_ok-m.ensures (λ e. differs u (c.peek-2.ensures.is ∙ e))
 
 pub returns : goal.returns
 returns c =
     let u = c.if-ne.ensures in
-    let e = not_unequal u.0 u.1 u.2 in
+    let e = agrees u in
     let h = c.peek-2.ensures.there (far NAME _ refl e) in
-    let m = c.in-ok-m.ensures in
-    (made_next c.args.depth c.args.s.now c.args.i c.args.used _ _ c.args.at c.requires.begun c.requires.there c.requires.comma (λ e. c.if-eq.ensures (c.peek.ensures.is ∙ e)) _ c.in-ok-m.m m h (sym c.peek-2.ensures.is ∙ e) (omega (arith, h, m.few, c.requires.begun.few)), omega (arith, m.few, m.more))
+    let m = c.in_ok-m.ensures in
+    (made_next c.args.depth c.args.s.now c.args.i c.args.used _ _ c.args.at c.requires.begun c.requires.there c.requires.comma (λ e. c.if-eq.ensures.says (c.peek.ensures.is ∙ e)) _ c.in_ok-m.m m h (sym c.peek-2.ensures.is ∙ e) (omega (arith, h, m.few, c.requires.begun.few)), omega (arith, m.few, m.more))

@@ -1,8 +1,6 @@
-use Rattle.std.proofs.Common.{◌≡◌, ◌+◌, ◌-◌, ◌<◌, ◌≤◌, length, get_or, sym, refl, ap, ◌∙◌, arith}
-use Rattle.std.proofs.lemmas.Result.{err_from_is_err_and}
-use Rattle.grammar.specs.Symbols.{STOP, NAME, INTEGER, TEXT, PLUS, MINUS, COMMA, LEFT, RIGHT}
-use Rattle.grammar.specs.Machine.{all, entries}
-use Rattle.parser.proofs.Results.{otherwise, unequal, not_unequal}
+use Rattle.std.proofs.Common.{sym, refl, ◌∙◌, arith}
+use Rattle.grammar.specs.Symbols.{INTEGER}
+use Rattle.parser.proofs.Results.{differs, agrees}
 use Rattle.parser.proofs.Build.{far}
 use Rattle.parser.proofs.Initials.{plus_refused, made_signed}
 use Rattle.parser.proofs.plus_signed.Goals as goal
@@ -10,11 +8,11 @@ use Rattle.parser.proofs.plus_signed.Goals as goal
 pub returns-then-ne : goal.returns-then-ne
 returns-then-ne c =
     let u = c.if-ne.ensures in
-    plus_refused c.args.depth c.args.s.now c.args.i c.args.used c.args.nodes.now c.requires.there c.requires.sign (λ e. unequal u.0 u.1 u.2 (c.peek.ensures.is ∙ e))
+    plus_refused c.args.depth c.args.s.now c.args.i c.args.used c.args.nodes.now c.requires.there c.requires.sign (λ e. differs u (c.peek.ensures.is ∙ e))
 
 pub returns : goal.returns
 returns c =
     let u = c.if-ne.ensures in
-    let e = not_unequal u.0 u.1 u.2 in
+    let e = agrees u in
     let h = c.peek.ensures.there (far INTEGER _ refl e) in
     made_signed c.args.depth c.args.s.now c.args.i c.args.used c.args.nodes.now c.requires.there c.requires.sign h (sym c.peek.ensures.is ∙ e) (omega (arith, h))

@@ -1,12 +1,8 @@
-use Rattle.std.proofs.Common.{◌≡◌, ◌+◌, ◌-◌, ◌<◌, ◌≤◌, length, get_or, sym, refl, ap, ◌∙◌, arith, length-set}
+use Rattle.std.proofs.Common.{◌<◌, length, refl, arith, length-set}
 use Rattle.parser.specs.declared.Node.TheVariants.{Name}
-use Rattle.std.proofs.lemmas.Result.{err_from_is_err_and}
-use Rattle.grammar.specs.Symbols.{STOP, NAME, BECOMES}
-use Rattle.grammar.specs.Machine.{stored, inblock}
-use Rattle.parser.proofs.Results.{unequal, not_unequal}
-use Rattle.parser.proofs.Build.{far, rebased}
+use Rattle.parser.proofs.Build.{rebased}
 use Rattle.parser.proofs.Keep.{agree_set, agree_trans}
-use Rattle.parser.proofs.Sharing.{first_name, more_names, no_name, made_plain, init_refused, made_given}
+use Rattle.parser.proofs.Sharing.{first_name, more_names}
 use Rattle.parser.proofs.shared.Goals as goal
 
 pub loop-nodes-init : goal.loop-nodes-init

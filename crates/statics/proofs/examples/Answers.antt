@@ -1,5 +1,4 @@
-use Rattle.std.proofs.Common.{List, [], Result, refl, arith}
-use Rattle.statics.specs.declared.Refusal.{Refusal}
+use Rattle.std.proofs.Common.{List, [], refl}
 use Rattle.grammar.specs.declared.Symbol.{Symbol}
 use Rattle.grammar.specs.Sentences.{Made}
 use Rattle.grammar.specs.Trees.{Module, blank, one}

@@ -5,26 +5,26 @@ use Rattle.statements.proofs.Places.{form_is, named_refused, place_first}
 use Rattle.statements.proofs.Calls.{named_off, made_invoked}
 use Rattle.statements.proofs.assignments.named.Goals as goal
 
-pub returns-in-err-f : goal.returns-in-err-f
-returns-in-err-f c =
-    let p = err_from_is_err_and c.from-residual.result c.from-residual.ensures.1 in
-    rw (p.1, p.2) (named_refused c.args.depth c.args.s.now c.args.i c.args.used c.requires.there c.requires.named _ c.in-err-f.ensures)
+pub returns-in_err-f : goal.returns-in_err-f
+returns-in_err-f c =
+    let p = err_from_is_err_and c.from_residual.result c.from_residual.ensures.1 in
+    rw (p.1, p.2) (named_refused c.args.depth c.args.s.now c.args.i c.args.used c.requires.there c.requires.named _ c.in_err-f.ensures)
 
 pub assignment-requires : goal.assignment-requires
 assignment-requires c =
-    let m = c.in-ok-f.ensures in
-    let y = c.shape-of-shape.ensures m.tree (form_is c.args.depth c.args.s.now c.args.i m.tree _ m.met) m.is in
-    let o = place_first c.args.depth c.args.s.now c.args.i c.args.used c.requires.there c.requires.named _ _ c.in-ok-f.f m c.shape-of-shape.result y c.if-destined.ensures in
+    let m = c.in_ok-f.ensures in
+    let y = c.shape_of-shape.ensures m.tree (form_is c.args.depth c.args.s.now c.args.i m.tree _ m.met) m.is in
+    let o = place_first c.args.depth c.args.s.now c.args.i c.args.used c.requires.there c.requires.named _ _ c.in_ok-f.f m c.shape_of-shape.result y c.if-destined.ensures in
     record { room = omega (arith, c.form.auto.nodes); begun = rebased 0 _ _ _ _ _ _ _ _ _ _ (λ j l. refl) o.0; few = o.1 }
 
-pub returns-in-default : goal.returns-in-default
-returns-in-default c =
-    let m = c.in-ok-f.ensures in
-    let y = c.shape-of-shape.ensures m.tree (form_is c.args.depth c.args.s.now c.args.i m.tree _ m.met) m.is in
-    named_off c.args.depth c.args.s.now c.args.i c.args.used c.requires.there c.requires.named _ _ c.in-ok-f.f m c.shape-of-shape.result y c.if-destined.ensures (sym c.invocation.ensures ∙ c.in-default.is)
+pub returns-in_default : goal.returns-in_default
+returns-in_default c =
+    let m = c.in_ok-f.ensures in
+    let y = c.shape_of-shape.ensures m.tree (form_is c.args.depth c.args.s.now c.args.i m.tree _ m.met) m.is in
+    named_off c.args.depth c.args.s.now c.args.i c.args.used c.requires.there c.requires.named _ _ c.in_ok-f.f m c.shape_of-shape.result y c.if-destined.ensures (sym c.invocation.ensures ∙ c.in_default.is)
 
 pub returns : goal.returns
 returns c =
-    let m = c.in-ok-f.ensures in
-    let y = c.shape-of-shape.ensures m.tree (form_is c.args.depth c.args.s.now c.args.i m.tree _ m.met) m.is in
-    made_invoked c.args.depth c.args.s.now c.args.i c.args.used c.requires.there c.requires.named _ _ c.in-ok-f.f m (omega (arith, m.few, m.within, c.form.auto.nodes)) c.shape-of-shape.result y c.if-destined.ensures c.in-Some.node (sym c.invocation.ensures ∙ c.in-Some.is)
+    let m = c.in_ok-f.ensures in
+    let y = c.shape_of-shape.ensures m.tree (form_is c.args.depth c.args.s.now c.args.i m.tree _ m.met) m.is in
+    made_invoked c.args.depth c.args.s.now c.args.i c.args.used c.requires.there c.requires.named _ _ c.in_ok-f.f m (omega (arith, m.few, m.within, c.form.auto.nodes)) c.shape_of-shape.result y c.if-destined.ensures c.in-Some.node (sym c.invocation.ensures ∙ c.in-Some.is)

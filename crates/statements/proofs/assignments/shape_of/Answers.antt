@@ -11,10 +11,10 @@ returns-in-CallOn c t = shows_called_on c.args.nodes.now c.args.k t c.in-CallOn.
 pub returns-in-Name : goal.returns-in-Name
 returns-in-Name c t = shows_indexed c.args.nodes.now c.args.k t c.in-Element.base c.in-Element.bracket c.in-Element.index (sym c.in-Element.ensures) c.in-Name.name (sym c.in-Name.ensures)
 
-pub returns-in-default-node-at : goal.returns-in-default-node-at
-returns-in-default-node-at c t = shows_longer c.args.nodes.now c.args.k t c.in-Element.base c.in-Element.bracket c.in-Element.index (sym c.in-Element.ensures) (λ n a. c.in-default-node-at.not-Name n (c.node-at-in-Element.ensures ∙ a))
+pub returns-in_default-node_at : goal.returns-in_default-node_at
+returns-in_default-node_at c t = shows_longer c.args.nodes.now c.args.k t c.in-Element.base c.in-Element.bracket c.in-Element.index (sym c.in-Element.ensures) (λ n a. c.in_default-node_at.not-Name n (c.node_at-in-Element.ensures ∙ a))
 
-pub returns-in-default : goal.returns-in-default
-returns-in-default c t =
-    let is = c.node-at.ensures in
-    shows_other c.args.nodes.now c.args.k t (λ b i g a. c.in-default.not-Element b i g (is ∙ a)) (λ n i a. c.in-default.not-Call n i (is ∙ a)) (λ n i g a. c.in-default.not-CallOn n i g (is ∙ a))
+pub returns-in_default : goal.returns-in_default
+returns-in_default c t =
+    let is = c.node_at.ensures in
+    shows_other c.args.nodes.now c.args.k t (λ b i g a. c.in_default.not-Element b i g (is ∙ a)) (λ n i a. c.in_default.not-Call n i (is ∙ a)) (λ n i g a. c.in_default.not-CallOn n i g (is ∙ a))

@@ -2,7 +2,7 @@ use Rattle.std.proofs.Common.{◌+◌, ◌-◌, ◌*◌, ◌<◌, length}
 use Rattle.grammar.specs.Machine.{all, statements}
 use Rattle.nodes.proofs.Repeat.{SomeMade, statements_list}
 use Rattle.statements.proofs.Blocks.{ArmsMade}
-use Rattle.statements.proofs.bodies.+arm_arms_block_body_branch_otherwise_repeat_sequence_statement_while_loop.Given as goal
+use Rattle.statements.proofs.bodies.+statements.Given as goal
 
 abbrev pub decreases-arm : goal.decreases-arm
 decreases-arm l = 8 * l.depth + 7
@@ -31,8 +31,8 @@ decreases-sequence l = 8 * l.depth + 6
 abbrev pub decreases-statement : goal.decreases-statement
 decreases-statement l = 8 * l.depth + 5
 
-abbrev pub decreases-while-loop : goal.decreases-while-loop
-decreases-while-loop l = 8 * l.depth + 4
+abbrev pub decreases-while_loop : goal.decreases-while_loop
+decreases-while_loop l = 8 * l.depth + 4
 
 abbrev pub invariant-arms-loop-nodes : goal.invariant-arms-loop-nodes
 invariant-arms-loop-nodes l = ArmsMade l.depth l.s l.i l.used l.initial.nodes l.nodes l.at × (l.at.used + 2 * l.i < 2 * l.at.next + l.used)

@@ -1,10 +1,10 @@
 use Rattle.std.proofs.Common.{◌≡◌, ◌+◌, ◌-◌, ◌<◌, ◌≤◌, length, get_or, sym, refl, ap, ◌∙◌, arith}
 use Rattle.std.proofs.lemmas.Result.{err_from_is_err_and}
 use Rattle.grammar.specs.Symbols.{STOP, NAME, INT, BYTE, REF, ARRAY, LEFT, RIGHT}
-use Rattle.nodes.proofs.Results.{otherwise, unequal, not_unequal}
+use Rattle.nodes.proofs.Results.{otherwise, differs, agrees}
 use Rattle.nodes.proofs.Build.{far}
 use Rattle.declarations.proofs.Modes.{mode_none, simple_refused, made_simple, made_int, made_byte, made_records, target_none, made_ref_int, made_ref_byte, made_ref_record, bare_refused, made_array, dims_deep, dims_unclosed, dims_refused, made_brackets}
-use Rattle.declarations.proofs.+amode_array_mode_mode_reference.Goals as goal
+use Rattle.declarations.proofs.+modes.Goals as goal
 
 pub mode-returns-in-Int : goal.mode-returns-in-Int
 mode-returns-in-Int t c =
@@ -16,10 +16,10 @@ mode-returns-in-Byte t c =
     let n = c.in-Byte.ensures in
     made_byte c.args.depth c.args.s.now c.args.i c.args.used c.args.nodes.now (n.there (far BYTE _ refl refl)) (sym n.is) (omega (arith, n.there (far BYTE _ refl refl)))
 
-pub mode-returns-in-default : goal.mode-returns-in-default
-mode-returns-in-default t c =
+pub mode-returns-in_default : goal.mode-returns-in_default
+mode-returns-in_default t c =
     let is = c.peek.ensures.is in
-    mode_none c.args.depth c.args.s.now c.args.i (λ e. c.in-default.not-Int (is ∙ e)) (λ e. c.in-default.not-Byte (is ∙ e)) (λ e. c.in-default.not-Ref (is ∙ e))
+    mode_none c.args.depth c.args.s.now c.args.i (λ e. c.in_default.not-Int (is ∙ e)) (λ e. c.in_default.not-Byte (is ∙ e)) (λ e. c.in_default.not-Ref (is ∙ e))
 
 pub reference-returns-in-Int : goal.reference-returns-in-Int
 reference-returns-in-Int t c =
@@ -39,65 +39,65 @@ reference-returns-in-Name t c =
     let h = n.there (far NAME _ refl refl) in
     made_ref_record c.args.depth c.args.s.now c.args.i c.args.used c.args.nodes.now c.requires.there c.requires.refers h (sym n.is) (omega (arith, h))
 
-pub reference-returns-in-default : goal.reference-returns-in-default
-reference-returns-in-default t c =
+pub reference-returns-in_default : goal.reference-returns-in_default
+reference-returns-in_default t c =
     let is = c.peek.ensures.is in
-    target_none c.args.depth c.args.s.now c.args.i c.args.used c.args.nodes.now c.requires.there c.requires.refers (λ e. c.in-default.not-Int (is ∙ e)) (λ e. c.in-default.not-Byte (is ∙ e)) (λ e. c.in-default.not-Name (is ∙ e)) (λ e. c.in-default.not-Array (is ∙ e))
+    target_none c.args.depth c.args.s.now c.args.i c.args.used c.args.nodes.now c.requires.there c.requires.refers (λ e. c.in_default.not-Int (is ∙ e)) (λ e. c.in_default.not-Byte (is ∙ e)) (λ e. c.in_default.not-Name (is ∙ e)) (λ e. c.in_default.not-Array (is ∙ e))
 
 pub amode-returns-then-eq : goal.amode-returns-then-eq
 amode-returns-then-eq t c =
-    let e = c.if-eq.ensures in
+    let e = c.if-eq.ensures.says in
     let h = c.peek.ensures.there (far NAME _ refl e) in
     made_records c.args.depth c.args.s.now c.args.i c.args.used c.args.nodes.now h (sym c.peek.ensures.is ∙ e) (omega (arith, h))
 
 pub amode-returns : goal.amode-returns
 amode-returns t c =
-    let n = (λ (e : get_or c.args.s.now c.args.i STOP ≡ NAME). c.if-eq.ensures (c.peek.ensures.is ∙ e)) in
+    let n = (λ (e : get_or c.args.s.now c.args.i STOP ≡ NAME). c.if-eq.ensures.says (c.peek.ensures.is ∙ e)) in
     otherwise c.mode.result (λ p m. made_simple c.args.depth c.args.s.now c.args.i n c.args.used _ _ p m) (λ f r. simple_refused c.args.depth c.args.s.now c.args.i n f r) c.mode.ensures
 
-pub array-mode-returns-in-err-m : goal.array-mode-returns-in-err-m
-array-mode-returns-in-err-m t c =
+pub array_mode-returns-in_err-m : goal.array_mode-returns-in_err-m
+array_mode-returns-in_err-m t c =
     let u = c.if-ne.ensures in
-    let p = err_from_is_err_and c.from-residual.result c.from-residual.ensures.1 in
-    rw (p.1, p.2) (bare_refused c.args.depth c.args.s.now c.args.i c.args.used c.args.nodes.now (omega (arith, c.requires.there)) c.requires.refers c.requires.there c.requires.array (λ e. unequal u.0 u.1 u.2 (c.peek.ensures.is ∙ e)) _ c.in-err-m.ensures)
+    let p = err_from_is_err_and c.from_residual.result c.from_residual.ensures.1 in
+    rw (p.1, p.2) (bare_refused c.args.depth c.args.s.now c.args.i c.args.used c.args.nodes.now (omega (arith, c.requires.there)) c.requires.refers c.requires.there c.requires.array (λ e. differs u (c.peek.ensures.is ∙ e)) _ c.in_err-m.ensures)
 
-pub array-mode-returns-then-ne : goal.array-mode-returns-then-ne
-array-mode-returns-then-ne t c =
+pub array_mode-returns-then-ne : goal.array_mode-returns-then-ne
+array_mode-returns-then-ne t c =
     let u = c.if-ne.ensures in
-    made_array c.args.depth c.args.s.now c.args.i c.args.used c.args.nodes.now (omega (arith, c.requires.there)) c.requires.refers c.requires.there c.requires.array (λ e. unequal u.0 u.1 u.2 (c.peek.ensures.is ∙ e)) _ c.in-ok-m.m (omega (arith, c.in-ok-m.ensures)) c.in-ok-m.ensures
+    made_array c.args.depth c.args.s.now c.args.i c.args.used c.args.nodes.now (omega (arith, c.requires.there)) c.requires.refers c.requires.there c.requires.array (λ e. differs u (c.peek.ensures.is ∙ e)) _ c.in_ok-m.m (omega (arith, c.in_ok-m.ensures)) c.in_ok-m.ensures
 
-pub array-mode-returns-then-depth-eq0 : goal.array-mode-returns-then-depth-eq0
-array-mode-returns-then-depth-eq0 t c =
+pub array_mode-returns-then-depth-eq0 : goal.array_mode-returns-then-depth-eq0
+array_mode-returns-then-depth-eq0 t c =
     let u = c.if-ne.ensures in
-    let e = not_unequal u.0 u.1 u.2 in
+    let e = agrees u in
     let h = c.peek.ensures.there (far LEFT _ refl e) in
     dims_deep c.args.depth c.args.s.now c.args.i c.args.used c.args.nodes.now (omega (arith, c.requires.there)) c.requires.refers c.requires.there c.requires.array h (sym c.peek.ensures.is ∙ e) c.if-depth-eq0.true
 
-pub array-mode-returns-then-ne-2 : goal.array-mode-returns-then-ne-2
-array-mode-returns-then-ne-2 t c =
+pub array_mode-returns-then-ne-2 : goal.array_mode-returns-then-ne-2
+array_mode-returns-then-ne-2 t c =
     let u = c.if-ne.ensures in
-    let e = not_unequal u.0 u.1 u.2 in
+    let e = agrees u in
     let h = c.peek.ensures.there (far LEFT _ refl e) in
     let v = c.if-ne-2.ensures in
-    dims_unclosed c.args.depth c.args.s.now c.args.i c.args.used c.args.nodes.now (omega (arith, c.requires.there)) c.requires.refers c.requires.there c.requires.array h (sym c.peek.ensures.is ∙ e) (omega arith) (λ x. unequal v.0 v.1 v.2 (c.peek-2.ensures.is ∙ x))
+    dims_unclosed c.args.depth c.args.s.now c.args.i c.args.used c.args.nodes.now (omega (arith, c.requires.there)) c.requires.refers c.requires.there c.requires.array h (sym c.peek.ensures.is ∙ e) (omega arith) (λ x. differs v (c.peek-2.ensures.is ∙ x))
 
-pub array-mode-returns-in-err-m-2 : goal.array-mode-returns-in-err-m-2
-array-mode-returns-in-err-m-2 t c =
+pub array_mode-returns-in_err-m-2 : goal.array_mode-returns-in_err-m-2
+array_mode-returns-in_err-m-2 t c =
     let u = c.if-ne.ensures in
-    let e = not_unequal u.0 u.1 u.2 in
+    let e = agrees u in
     let h = c.peek.ensures.there (far LEFT _ refl e) in
     let v = c.if-ne-2.ensures in
-    let x = not_unequal v.0 v.1 v.2 in
+    let x = agrees v in
     let k = c.peek-2.ensures.there (far RIGHT _ refl x) in
-    let p = err_from_is_err_and c.from-residual-in-err-m-2.result c.from-residual-in-err-m-2.ensures.1 in
-    rw (p.1, p.2) (dims_refused c.args.depth c.args.s.now c.args.i c.args.used c.args.nodes.now (omega (arith, c.requires.there)) c.requires.refers c.requires.there c.requires.array h (sym c.peek.ensures.is ∙ e) (omega arith) k (sym c.peek-2.ensures.is ∙ x) _ c.in-err-m-2.ensures)
+    let p = err_from_is_err_and c.from_residual-in_err-m-2.result c.from_residual-in_err-m-2.ensures.1 in
+    rw (p.1, p.2) (dims_refused c.args.depth c.args.s.now c.args.i c.args.used c.args.nodes.now (omega (arith, c.requires.there)) c.requires.refers c.requires.there c.requires.array h (sym c.peek.ensures.is ∙ e) (omega arith) k (sym c.peek-2.ensures.is ∙ x) _ c.in_err-m-2.ensures)
 
-pub array-mode-returns : goal.array-mode-returns
-array-mode-returns t c =
+pub array_mode-returns : goal.array_mode-returns
+array_mode-returns t c =
     let u = c.if-ne.ensures in
-    let e = not_unequal u.0 u.1 u.2 in
+    let e = agrees u in
     let h = c.peek.ensures.there (far LEFT _ refl e) in
     let v = c.if-ne-2.ensures in
-    let x = not_unequal v.0 v.1 v.2 in
+    let x = agrees v in
     let k = c.peek-2.ensures.there (far RIGHT _ refl x) in
-    made_brackets c.args.depth c.args.s.now c.args.i c.args.used c.args.nodes.now (omega (arith, c.requires.there)) c.requires.refers c.requires.there c.requires.array h (sym c.peek.ensures.is ∙ e) (omega arith) k (sym c.peek-2.ensures.is ∙ x) _ c.in-ok-m-2.m (omega (arith, c.in-ok-m-2.ensures)) c.in-ok-m-2.ensures
+    made_brackets c.args.depth c.args.s.now c.args.i c.args.used c.args.nodes.now (omega (arith, c.requires.there)) c.requires.refers c.requires.there c.requires.array h (sym c.peek.ensures.is ∙ e) (omega arith) k (sym c.peek-2.ensures.is ∙ x) _ c.in_ok-m-2.m (omega (arith, c.in_ok-m-2.ensures)) c.in_ok-m-2.ensures

@@ -1,7 +1,7 @@
 use Rattle.std.proofs.Common.{◌+◌, ◌-◌, ◌*◌, length}
 use Rattle.grammar.specs.Machine.{all, entries}
 use Rattle.parser.proofs.Repeat.{SomeMade, entries_list}
-use Rattle.parser.proofs.+entry_list_value_values.Given as goal
+use Rattle.parser.proofs.+initials.Given as goal
 
 abbrev pub decreases-values : goal.decreases-values
 decreases-values l = 4 * l.depth + 3

@@ -1,11 +1,10 @@
 use Rattle.std.proofs.Common.{◌≡◌, ℕ, suc, ◌+◌, ◌-◌, ◌*◌, ◌<◌, ◌≤◌, true, [], ◌∷◌, length, get_or}
 use Rattle.grammar.specs.Symbols.{among, STOP}
-use Rattle.grammar.specs.Trees.{Expr, Exprs, Term, of_expr, of_exprs, of_term}
+use Rattle.grammar.specs.Trees.{Expr, Exprs, Term, Variable, of_expr, of_exprs, of_term, of_variable}
 use Rattle.grammar.specs.Machine.{a_term}
-use Rattle.nodes.specs.Made.{Made, Way, LevelWay, Opening, Counted, ArgsWay, Monads, monadics}
-use Rattle.nodes.specs.Nodes.{IsExpr, IsExprs, IsTerm}
-use Rattle.expressions.proofs.Forms.{VariableMade}
-use Rattle.expressions.proofs.+applied_bracketed_calls_expr_form_level_primary_term_variable.Given as goal
+use Rattle.parser.specs.Made.{Made, Way, LevelWay, PartsWay, ArgsWay, Monads, monadics}
+use Rattle.parser.specs.Nodes.{IsExpr, IsExprs, IsTerm, IsVariable}
+use Rattle.parser.proofs.+expressions.Given as goal
 
 abbrev pub decreases-expr : goal.decreases-expr
 decreases-expr l = 16 * l.depth + 15
@@ -59,7 +58,7 @@ abbrev pub decreases-term-loop-k-2 : goal.decreases-term-loop-k-2
 decreases-term-loop-k-2 l = l.k - l.i
 
 abbrev pub invariant-variable-loop-nodes : goal.invariant-variable-loop-nodes
-invariant-variable-loop-nodes l = Counted l.s l.i l.used l.at × ((b : Opening) → VariableMade b l.depth l.s l.i l.used l.initial.nodes l.initial.nodes l.initial.at → VariableMade b l.depth l.s l.i l.used l.initial.nodes l.nodes l.at)
+invariant-variable-loop-nodes l = Made 0 Variable IsVariable of_variable (PartsWay l.depth l.s l.i) l.s l.i l.used l.initial.nodes l.nodes l.at
 
 abbrev pub decreases-variable-loop-nodes : goal.decreases-variable-loop-nodes
 decreases-variable-loop-nodes l = length l.s - l.at.next

@@ -1,5 +1,5 @@
 use Rattle.std.proofs.Common.{◌+◌, ◌-◌, ◌*◌, length}
-use Rattle.declarations.proofs.+amode_array_mode_mode_reference.Given as goal
+use Rattle.declarations.proofs.+modes.Given as goal
 
 abbrev pub decreases-amode : goal.decreases-amode
 decreases-amode l = 4 * (length l.s.now - l.i) + 3
@@ -10,5 +10,5 @@ decreases-mode l = 4 * (length l.s.now - l.i) + 2
 abbrev pub decreases-reference : goal.decreases-reference
 decreases-reference l = 4 * (length l.s.now - l.i) + 1
 
-abbrev pub decreases-array-mode : goal.decreases-array-mode
-decreases-array-mode l = 4 * (length l.s.now - l.i)
+abbrev pub decreases-array_mode : goal.decreases-array_mode
+decreases-array_mode l = 4 * (length l.s.now - l.i)
