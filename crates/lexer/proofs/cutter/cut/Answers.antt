@@ -5,13 +5,13 @@ use Rattle.lexer.specs.Steps.{Over, Answered}
 use Rattle.lexer.proofs.Cuts.{long_answer, decline_answer, many_answer, whole_answer, reached_more}
 use Rattle.lexer.proofs.cutter.cut.Goals as goal
 
-pub returns-then-text-gt-MAX-BYTES : goal.returns-then-text-gt-MAX-BYTES
-returns-then-text-gt-MAX-BYTES c = long_answer c.args.text.now c.if-text-gt-MAX-BYTES.true
+pub returns-then-text-gt-MAX_BYTES : goal.returns-then-text-gt-MAX_BYTES
+returns-then-text-gt-MAX_BYTES c = long_answer c.args.text.now c.if-text-gt-MAX_BYTES.true
 
 pub returns-in-err-passed : goal.returns-in-err-passed
 returns-in-err-passed c =
     let i = c.loop-at.invariant in
-    let p = err_from_is_err_and c.from-residual.result c.from-residual.ensures.1 in
+    let p = err_from_is_err_and c.from_residual.result c.from_residual.ensures.1 in
     rw (p.1, p.2) (decline_answer c.args.text.now c.loop-at.at i.2.0 _ i.1 i.2.2 c.in-err-passed.ensures)
 
 pub loop-at-preserved-in-Some : goal.loop-at-preserved-in-Some
