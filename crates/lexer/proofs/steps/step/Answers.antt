@@ -1,10 +1,10 @@
-use Rattle.std.proofs.Common.{◌≡◌, ℕ, ◌+◌, ◌-◌, List, [], length, take, drop, Some, Err, sym, ap, ◌∙◌, subst, arith}
+use Rattle.std.proofs.Common.{◌≡◌, ℕ, ◌+◌, List, [], length, drop, Some, Err, sym, ap, subst, arith}
 use Rattle.std.proofs.lemmas.List.{take_rest}
 use Rattle.answers.specs.declared.Decline.TheVariants.{IntegerTooLarge}
 use Rattle.symbols.specs.Cut.{Cut}
 use Rattle.symbols.specs.See.{see}
 use Rattle.scanner.specs.Seen.{Shows, Sees, bytes_of, symbol_of}
-use Rattle.lexer.specs.Steps.{Joins, decline_of}
+use Rattle.lexer.specs.Steps.{Joins}
 use Rattle.lexer.proofs.Stepping.{blank_joins, item_joins, item_moves, item_fits, large_declined, stop_declined, stop_within}
 use Rattle.lexer.proofs.steps.step.Goals as goal
 
