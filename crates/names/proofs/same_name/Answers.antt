@@ -1,4 +1,4 @@
-use Rattle.std.proofs.Common.{◌≡◌, sym, ◌∙◌, arith}
+use Rattle.std.proofs.Common.{sym, ◌∙◌, arith}
 use Rattle.names.proofs.same_name.Goals as goal
 use Rattle.names.proofs.Laws.{length_same, place_same, one_more, all_same}
 

@@ -1,7 +1,7 @@
 use Rattle.std.proofs.Common.{◌≡◌, ℕ, ◌<◌, ◌≤◌, List, [], ◌∷◌, ◌++◌, length, ap, ◌∙◌, subst, arith}
 use Rattle.std.proofs.lemmas.List.{length-append}
-use Rattle.answers.specs.Declines.{number_of, place_of}
-use Rattle.answers.specs.Figures.{IsDecimal, Wrote, room}
+use Rattle.answers.specs.Declines.{place_of}
+use Rattle.answers.specs.Figures.{IsDecimal, Wrote}
 use Rattle.answers.specs.Lines.{line_of, column_of}
 use Rattle.answers.proofs.Writing.{wrote_both, room_most, room_low, number_low}
 use Rattle.answers.proofs.Decline.write_line.Goals as goal
