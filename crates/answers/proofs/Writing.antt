@@ -1,13 +1,12 @@
 -- What is written into a buffer, piece by piece.
-use Rattle.std.proofs.Common.{◌≡◌, ℕ, zero, suc, ◌+◌, ◌-◌, ◌*◌, ◌<◌, ◌≤◌, true, false, cond, ltb, List, [], ◌∷◌, ◌++◌, map, length, get_or, take, drop, set, sym, refl, ap, ◌∙◌, subst, ⊎_elim, append_assoc, append-nil, arith}
-use Rattle.std.specs.Int.Digits.{number_from_digits}
-use Rattle.std.specs.List.{AllByRecursion as All}
-use Rattle.std.proofs.lemmas.List.{length_push, length-append, take_more_set, drop-set-lt, drop-drop, drop_more, map_more, get_or-drop, length-drop}
+use Rattle.std.proofs.Common.{◌≡◌, ℕ, zero, suc, ◌+◌, ◌-◌, ◌<◌, ◌≤◌, ltb, List, [], ◌∷◌, ◌++◌, map, length, get_or, take, drop, set, sym, refl, ap, ◌∙◌, ⊎_elim, append_assoc, append-nil, arith}
+use Rattle.std.specs.List.{AllByRecursion}
+use Rattle.std.proofs.lemmas.List.{length_push, length-append, take_more_set, drop-set-lt, drop-drop, map_more, get_or-drop, length-drop}
 use Rattle.std.proofs.lemmas.Bool.{cond-true, cond-false, cond_both, lt-ltb, le-ltb, cases_lt}
 use Rattle.answers.specs.Declines.{number_of}
 use Rattle.answers.specs.declared.Decline.{Decline}
 use Rattle.answers.specs.declared.Decline.TheVariants.{TextTooLong, BadByte, UnfinishedItem, IntegerTooLarge, TooManyItems, Unexpected, TooDeep}
-use Rattle.answers.specs.Figures.{IsFigure, figure, IsDecimal, Wrote, WroteNumber, room, Five, First}
+use Rattle.answers.specs.Figures.{figure, IsDecimal, Wrote, room, Five, First}
 
 pub wrote_none : (xs : List ℕ) (at : ℕ) → Wrote xs xs at at []
 wrote_none xs at = record { until = omega arith; front = sym (append-nil (take at xs)); behind = refl }
@@ -148,7 +147,7 @@ room_for n (a ∷ b ∷ c ∷ d ∷ e ∷ x ∷ ds) k h f = absurd (omega (arith
 pub digits_low : (n : ℕ) (ds : List ℕ) → Five n ds → (i : ℕ) → get_or ds i 0 < 10
 digits_low n ds h = go ds h.digits
   where
-    go : (ds : List ℕ) → All (λ d. d < 10) ds → (i : ℕ) → get_or ds i 0 < 10
+    go : (ds : List ℕ) → AllByRecursion (λ d. d < 10) ds → (i : ℕ) → get_or ds i 0 < 10
     go [] a i = omega arith
     go (d ∷ ds) a zero = a.0
     go (d ∷ ds) a (suc i) = go ds a.1 i

@@ -1,7 +1,7 @@
 -- How a number is written in decimal figures. Assumes nothing.
-use Rattle.std.specs.Prelude.{◌≡◌, ℕ, ◌+◌, ◌-◌, ◌<◌, ◌≤◌, cond, List, [], ◌∷◌, ◌++◌, map, length, take, drop, ◌≢◌, nat_lt, slice_index}
+use Rattle.std.specs.Prelude.{◌≡◌, ℕ, ◌+◌, ◌-◌, ◌<◌, ◌≤◌, cond, List, ◌++◌, map, length, take, drop, ◌≢◌, nat_lt, slice_index}
 use Rattle.std.specs.Int.Digits.{number_from_digits}
-use Rattle.std.specs.List.{AllByRecursion as All}
+use Rattle.std.specs.List.{AllByRecursion}
 
 -- a figure, from 0 to 9
 abbrev pub IsFigure : ℕ → Type 0
@@ -13,7 +13,7 @@ figure d = 48 + d
 
 -- the figures ds are of n: read as decimal they give n, and the first of several is no 0
 pub record IsDecimal (n : ℕ) (ds : List ℕ) : Type 0 where
-  pub figures : All IsFigure ds
+  pub figures : AllByRecursion IsFigure ds
   pub value : number_from_digits 10 (map (λ b. b - 48) ds) ≡ n
   pub some : 0 < length ds
   pub front : 1 < length ds → slice_index ds 0 ≢ 48
@@ -38,7 +38,7 @@ pub record WroteNumber (n : ℕ) (before after : List ℕ) (at end : ℕ) : Type
 -- five digits that write n, the zeros at the front too
 pub record Five (n : ℕ) (ds : List ℕ) : Type 0 where
   pub five : length ds ≡ 5
-  pub digits : All (λ d. d < 10) ds
+  pub digits : AllByRecursion (λ d. d < 10) ds
   pub value : number_from_digits 10 ds ≡ n
 
 -- k is the place of the first of five digits that is not 0, or of the last

@@ -1,5 +1,5 @@
 -- The locals of a body, step by step. Assumes nothing.
-use Rattle.std.proofs.Common.{◌≡◌, ℕ, ◌+◌, ◌-◌, ◌*◌, ◌<◌, true, false, List, [], ◌∷◌, length, get_or, set, refl, ap, ◌∙◌, arith}
+use Rattle.std.proofs.Common.{◌≡◌, ℕ, ◌+◌, ◌*◌, ◌<◌, true, false, List, [], ◌∷◌, length, get_or, set, refl, ap, ◌∙◌, arith}
 use Rattle.grammar.specs.Symbols.{among, STOP, SEMI}
 use Rattle.grammar.specs.declared.Symbol.{Symbol}
 use Rattle.grammar.specs.Trees.{Opt, none, some, Many, Init, Expr, of_expr, of_inits, Mode, of_mode, Local, local, Locals, locals, of_locals, Body, body, Sequence, of_body, of_sequence}

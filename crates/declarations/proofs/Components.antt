@@ -1,10 +1,10 @@
 -- Components and parameters, step by step. Assumes nothing.
-use Rattle.std.proofs.Common.{◌≡◌, ℕ, ◌+◌, ◌-◌, ◌*◌, ◌<◌, ◌≤◌, Bool, true, false, cond, List, [], ◌∷◌, ◌++◌, length, get_or, drop, set, sym, refl, ap, ◌∙◌, arith}
+use Rattle.std.proofs.Common.{◌≡◌, ℕ, ◌+◌, ◌<◌, Bool, true, false, cond, List, [], ◌∷◌, length, get_or, drop, set, refl, ap, ◌∙◌, arith}
 use Rattle.grammar.specs.Symbols.{same, STOP, NAME, INT, BYTE, REF, COMMA}
 use Rattle.grammar.specs.declared.Symbol.{Symbol}
-use Rattle.grammar.specs.Trees.{Token, token, key, Opt, none, some, Mode, Fields, field, also, next, of_mode, of_fields}
+use Rattle.grammar.specs.Trees.{Token, token, key, Opt, Mode, Fields, field, also, next, of_mode, of_fields}
 use Rattle.grammar.specs.Sentences.{items}
-use Rattle.grammar.specs.Machine.{Goal, Forest, Tree, Left as Left-stack, Move, shift, skip, refuse, on, then, never, tok, a_mode, the_fields, fields_on, a_further, fielded, alike, other, at_mode, taken, onto_stack, step}
+use Rattle.grammar.specs.Machine.{Goal, Forest, Tree, Left as Left-stack, Move, shift, skip, refuse, on, then, never, tok, a_mode, the_fields, fields_on, a_further, fielded, other, at_mode, taken, onto_stack, step}
 use Rattle.grammar.proofs.Steps.{items_here, step_at, refuse_at, refuses, like_at, skip_at}
 use Rattle.nodes.proofs.Build.{grown, not_on}
 use Rattle.declarations.proofs.Modes.{ModeMade}
@@ -15,7 +15,7 @@ use Rattle.nodes.specs.declared.Node.{Node}
 use Rattle.nodes.specs.declared.Node.TheVariants as node
 use Rattle.nodes.specs.declared.Parsed.{Parsed}
 use Rattle.nodes.specs.declared.Fault.{Fault}
-use Rattle.nodes.specs.declared.Fault.TheVariants.{Syntax, Deep}
+use Rattle.nodes.specs.declared.Fault.TheVariants.{Syntax}
 
 -- a move that is no skip
 abbrev Sure : {T : Type 0} → Move T → Type 0

@@ -1,5 +1,5 @@
 -- Initial values, step by step. Assumes nothing.
-use Rattle.std.proofs.Common.{◌≡◌, ℕ, ◌+◌, ◌-◌, ◌*◌, ◌<◌, ◌≤◌, Bool, true, false, cond, List, [], ◌∷◌, ◌++◌, length, get_or, drop, set, sym, refl, ap, ◌∙◌, arith}
+use Rattle.std.proofs.Common.{◌≡◌, ℕ, ◌+◌, ◌-◌, ◌<◌, true, List, [], ◌∷◌, length, get_or, drop, set, refl, ap, ◌∙◌, arith}
 use Rattle.grammar.specs.Symbols.{among, STOP, NAME, INTEGER, TEXT, PLUS, MINUS, LEFT, RIGHT}
 use Rattle.grammar.specs.declared.Symbol.{Symbol}
 use Rattle.grammar.specs.Trees.{Token, token, key, mark, Opt, none, some, Value, constant, signed, minus_signed, identifier, string, empty_list, list, Values, Entry, once, repeated, of_value, of_values, of_entry}
@@ -8,7 +8,7 @@ use Rattle.grammar.specs.Machine.{Goal, Left as Left-stack, Move, shift, skip, r
 use Rattle.grammar.proofs.Right.{clash, among_but as found_in}
 use Rattle.grammar.proofs.Steps.{items_here, step_at, sink_at, refuse_at, refuses, like_at, skip_at, followed_at}
 use Rattle.nodes.proofs.Build.{grown, not_on, fewer_is, more_is}
-use Rattle.nodes.proofs.Keep.{keep_value, keep_values, agree_trans}
+use Rattle.nodes.proofs.Keep.{keep_value, keep_values}
 use Rattle.nodes.specs.Made.{at, Made, Way, Refused}
 use Rattle.nodes.specs.Nodes.{At, IsValue, IsValues, IsEntry}
 use Rattle.nodes.specs.declared.Node.{Node}

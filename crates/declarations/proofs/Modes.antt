@@ -1,10 +1,10 @@
 -- Modes, step by step. Assumes nothing.
-use Rattle.std.proofs.Common.{◌≡◌, ℕ, ◌+◌, ◌-◌, ◌*◌, ◌<◌, ◌≤◌, List, [], ◌∷◌, ◌++◌, length, get_or, drop, set, sym, refl, ap, ◌∙◌, arith}
+use Rattle.std.proofs.Common.{◌≡◌, ℕ, ◌+◌, ◌-◌, ◌<◌, List, [], ◌∷◌, length, get_or, drop, set, refl, ap, ◌∙◌, arith}
 use Rattle.grammar.specs.Symbols.{STOP, NAME, INT, BYTE, REF, ARRAY, LEFT, RIGHT}
 use Rattle.grammar.specs.declared.Symbol.{Symbol}
-use Rattle.grammar.specs.Trees.{Token, token, key, mark, Opt, none, some, Mode, int, byte, ref_int, ref_byte, ref_record, ref_array, ref_array_brackets, Amode, simple, records, of_mode, of_amode}
+use Rattle.grammar.specs.Trees.{Token, token, key, mark, Mode, int, byte, ref_int, ref_byte, ref_record, ref_array, ref_array_brackets, Amode, simple, records, of_mode, of_amode}
 use Rattle.grammar.specs.Sentences.{items}
-use Rattle.grammar.specs.Machine.{Goal, Left as Left-stack, Move, shift, skip, refuse, mapped, tok, a_mode, an_amode, a_target, dims, bare, at_mode, at_amode, taken, onto_stack, step, fewer}
+use Rattle.grammar.specs.Machine.{Goal, Move, refuse, tok, a_mode, an_amode, a_target, dims, bare, at_mode, at_amode, taken, onto_stack, step, fewer}
 use Rattle.grammar.proofs.Steps.{items_here, step_at, sink_at, refuse_at, refuses, like_at, mapped_on}
 use Rattle.nodes.proofs.Build.{grown, not_on, fewer_is, more_is}
 use Rattle.nodes.proofs.Keep.{keep_amode}

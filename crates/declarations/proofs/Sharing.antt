@@ -1,17 +1,17 @@
 -- Declared names with their initial values, step by step. Assumes nothing.
-use Rattle.std.proofs.Common.{◌≡◌, ℕ, zero, suc, ◌+◌, ◌-◌, ◌*◌, ◌<◌, ◌≤◌, Bool, true, false, eqb, List, [], ◌∷◌, ◌++◌, length, get_or, drop, set, sym, refl, ap, ◌∙◌, subst, arith}
+use Rattle.std.proofs.Common.{◌≡◌, ℕ, zero, suc, ◌+◌, ◌*◌, ◌<◌, Bool, true, false, eqb, List, [], ◌∷◌, length, get_or, drop, set, sym, refl, ap, ◌∙◌, subst, arith}
 use Rattle.grammar.specs.Symbols.{code, same, same_true, STOP, NAME, BECOMES}
 use Rattle.grammar.specs.declared.Symbol.{Symbol}
-use Rattle.grammar.specs.Trees.{Token, token, key, Opt, none, some, Many, one, more, Init, plain, given, Value, Expr, of_value, of_expr, of_init, of_many, of_name}
+use Rattle.grammar.specs.Trees.{Token, token, key, Opt, none, some, Many, one, more, Init, plain, given, of_init, of_many, of_name}
 use Rattle.grammar.specs.Sentences.{items}
-use Rattle.grammar.specs.Machine.{Goal, Forest, Tree, Left as Left-stack, Move, shift, skip, refuse, mapped, each, declareds, unset, set as set-sort, Setting, stored, inblock, Initial, given_on, chain, linked, uses, value, a_value, an_expr, a_term, links_on, named, inner, at_value, at_expr, taken, onto_stack, step, may_end, done, is_some, pair, void}
+use Rattle.grammar.specs.Machine.{Goal, Forest, Move, refuse, each, declareds, unset, set as set-sort, Setting, stored, inblock, Initial, given_on, chain, linked, uses, value, a_value, an_expr, a_term, links_on, named, inner, at_value, at_expr, taken, onto_stack, step, done, is_some, pair, void}
 use Rattle.grammar.proofs.Spell.{of_initial}
 use Rattle.grammar.proofs.Expressions.{on_not}
 use Rattle.grammar.proofs.Steps.{items_here, step_at, refuse_at, refuses, like_at, skip_at, followed_at, expr_at, mapped_on}
 use Rattle.nodes.proofs.Build.{grown, not_on, far}
 use Rattle.nodes.proofs.Keep.{keep_value, keep_expr, keep_name, keep_many, agree_set, at_set, agree_trans}
 use Rattle.nodes.specs.Made.{at, Made, Way, Refused, Shares, of_shared, NamesWay}
-use Rattle.nodes.specs.Nodes.{At, Agree, Reading, IsMany, IsName, IsInit, IsValue, IsExpr}
+use Rattle.nodes.specs.Nodes.{Agree, Reading, IsMany, IsName, IsInit, IsValue, IsExpr}
 use Rattle.nodes.specs.declared.Node.{Node}
 use Rattle.nodes.specs.declared.Node.TheVariants as node
 use Rattle.nodes.specs.declared.Parsed.{Parsed}

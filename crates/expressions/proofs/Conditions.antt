@@ -1,10 +1,10 @@
 -- Comparisons, step by step. Assumes nothing.
-use Rattle.std.proofs.Common.{◌≡◌, ℕ, ◌+◌, ◌-◌, ◌*◌, ◌<◌, ◌≤◌, Bool, true, false, List, [], ◌∷◌, ◌++◌, length, get_or, drop, set, sym, refl, ap, ◌∙◌, subst, arith}
+use Rattle.std.proofs.Common.{◌≡◌, ℕ, ◌+◌, ◌<◌, true, false, List, [], ◌∷◌, length, get_or, drop, set, refl, ap, ◌∙◌, arith}
 use Rattle.grammar.specs.Symbols.{among, STOP, EQUAL, HASH, LESS, ATMOST, MORE, ATLEAST, IS, ISNT}
 use Rattle.grammar.specs.declared.Symbol.{Symbol}
-use Rattle.grammar.specs.Trees.{Token, key, mark, Opt, some, Expr, Comparison, compare, Comparator, equal, unequal, less, at_most, greater, at_least, same_place, other_place, spell_comparator, of_expr, of_comparison}
+use Rattle.grammar.specs.Trees.{Token, key, mark, some, Comparison, compare, Comparator, equal, unequal, less, at_most, greater, at_least, same_place, other_place, spell_comparator, of_expr, of_comparison}
 use Rattle.grammar.specs.Sentences.{items}
-use Rattle.grammar.specs.Machine.{Goal, Move, refuse, each, ands, an_expr, compared, at_comparator, level, step_to}
+use Rattle.grammar.specs.Machine.{Goal, refuse, each, ands, an_expr, compared, at_comparator, level, step_to}
 use Rattle.grammar.proofs.Expressions.{on_not}
 use Rattle.grammar.proofs.Steps.{items_here, step_at, refuse_at, refuses, followed_at}
 use Rattle.nodes.proofs.Build.{grown}

@@ -7,7 +7,7 @@ use Rattle.grammar.specs.Sentences.{items}
 use Rattle.grammar.specs.Machine.{Goal, refuse, goes, mapped, tok, rest, exprs, an_expr, a_primary, named, arguments, argued, closed_on, parts, Stand, inner, start, right, argument, behind, Seen, just_name, one_index, longer, seen, indexed, next_goal, fewer}
 use Rattle.grammar.proofs.Steps.{items_here, step_at, sink_at, refuse_at, refuses, skip_at, followed_at}
 use Rattle.nodes.proofs.Keep.{keep_expr, keep_exprs, keep_variable, agree_trans}
-use Rattle.nodes.specs.Made.{at, Made, Way, Refused, answer, Ended, FormWay, FormRefused, NotCalled, Opening, by_name, by_val, opened, so_far, PartsWay, VariableWay, VariableRefused, Counted, ArgsWay}
+use Rattle.nodes.specs.Made.{at, Made, Way, Refused, answer, Ended, FormWay, FormRefused, NotCalled, Opening, by_name, by_val, so_far, PartsWay, VariableWay, VariableRefused, Counted, ArgsWay}
 use Rattle.nodes.specs.Nodes.{At, IsExpr, IsExprs, IsPrimary, IsVariable}
 use Rattle.nodes.specs.declared.Node.{Node}
 use Rattle.nodes.specs.declared.Node.TheVariants.{Integer, Text, Name, Element, Component, Call, CallOn, Paren, Also}

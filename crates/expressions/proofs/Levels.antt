@@ -1,17 +1,17 @@
 -- Terms and the levels of an expression, step by step. Assumes nothing.
-use Rattle.std.proofs.Common.{◌≡◌, ℕ, zero, suc, ◌+◌, ◌-◌, ◌*◌, ◌<◌, ◌≤◌, Bool, true, false, cond, List, [], ◌∷◌, ◌++◌, length, get_or, drop, set, sym, refl, ap, ◌∙◌, subst, arith, below_more}
+use Rattle.std.proofs.Common.{◌≡◌, ℕ, suc, ◌+◌, ◌-◌, ◌<◌, ◌≤◌, Bool, true, false, cond, List, [], ◌∷◌, length, get_or, drop, set, sym, refl, ap, ◌∙◌, subst, arith, below_more}
 use Rattle.grammar.specs.Symbols.{among, same, same_true, STOP, PLUS, MINUS, STAR, DIVIDE, MOD, LAND, LOR, NEV, ABS, NOT, BYTE, LENGTH}
 use Rattle.grammar.specs.declared.Symbol.{Symbol}
-use Rattle.grammar.specs.Trees.{Token, token, mark, Opt, none, some, Dyadic, times, divide, modulo, land, lor, nev, plus, minus, spell, Monadic, positive, negative, absolute, complement, narrow, size, spell_monadic, Expr, term, up, dyadic, Term, monadic, primary, Primary, of_expr, of_term, of_primary}
+use Rattle.grammar.specs.Trees.{Token, token, mark, some, Dyadic, times, divide, modulo, land, lor, nev, plus, minus, spell, Monadic, positive, negative, absolute, complement, narrow, size, spell_monadic, Expr, term, up, dyadic, Term, monadic, primary, Primary, of_expr, of_term, of_primary}
 use Rattle.grammar.specs.Sentences.{items}
-use Rattle.grammar.specs.Machine.{Goal, Left, Move, shift, skip, refuse, mapped, Tree, an_expr, a_term, a_primary, links_on, at_term, at_primary, at_links, taken, onto_stack, step, step_to, level}
+use Rattle.grammar.specs.Machine.{Goal, Move, skip, mapped, an_expr, a_term, a_primary, links_on, at_term, at_primary, at_links, taken, onto_stack, step, step_to, level}
 use Rattle.grammar.proofs.Expressions.{on_not}
 use Rattle.grammar.proofs.Right.{clash, among_but as found_in}
 use Rattle.grammar.proofs.Steps.{items_here, step_at, like_at, skip_at, expr_at, mapped_on}
 use Rattle.nodes.proofs.Build.{grown}
-use Rattle.nodes.proofs.Keep.{keep_expr, keep_term, agree_set, at_set, agree_trans}
+use Rattle.nodes.proofs.Keep.{keep_expr, keep_term, agree_trans}
 use Rattle.nodes.specs.Made.{at, Made, Way, Refused, rank, LevelWay, LevelRefused, monadics, Monads}
-use Rattle.nodes.specs.Nodes.{At, IsExpr, IsTerm, IsPrimary, Agree}
+use Rattle.nodes.specs.Nodes.{IsExpr, IsTerm, IsPrimary, Agree}
 use Rattle.nodes.specs.declared.Node.{Node}
 use Rattle.nodes.specs.declared.Node.TheVariants as node
 use Rattle.nodes.specs.declared.Parsed.{Parsed}

@@ -2,7 +2,7 @@ use Rattle.std.proofs.Common.{◌≡◌, ℕ, zero, suc, ◌+◌, ◌-◌, ◌*�
 use native.Mathlib.Numerals.{unary_clauses}
 use Rattle.std.proofs.lemmas.List.{drop-drop, take-append-le, drop-append-le, length-drop, take_more, take_all, flat_map_more}
 use Rattle.std.proofs.ByRecursion.{All-get_or, All-push}
-use Rattle.std.specs.List.{flat_map, AllByRecursion as All}
+use Rattle.std.specs.List.{flat_map, AllByRecursion}
 use Rattle.std.specs.Option.{option_to_list}
 use Rattle.streams.specs.Recorders.{Meaning, State, Kept, Arrive, empty}
 use Rattle.streams.specs.History.{History, begun, Recorded, Closed}
@@ -38,7 +38,7 @@ record_at_lem (e ∷ es) (suc k) l =
 
 -- the first k entries are read from the first k records
 pub entries_front :
-    (k : ℕ) (es : List Entry) → All Valid es → k ≤ length es → entries_in k (flat_map encoded es) ≡ take k es
+    (k : ℕ) (es : List Entry) → AllByRecursion Valid es → k ≤ length es → entries_in k (flat_map encoded es) ≡ take k es
 entries_front zero es v l = refl
 entries_front (suc k) es v l =
     let h : k < length es = omega arith in

@@ -1,10 +1,8 @@
-use Rattle.std.proofs.Common.{◌≡◌, ℕ, ◌+◌, ◌-◌, ◌<◌, ◌≤◌, ◌⊎◌, List, [], ◌∷◌, length, get_or, take, drop, ℤ, pos, neg_ℤ, Some, None, Option, sym, refl, ap, ◌∙◌, subst, inl, inr, arith, w16, SFits}
+use Rattle.std.proofs.Common.{◌≡◌, ℕ, ◌-◌, ◌≤◌, ◌⊎◌, List, ◌∷◌, length, get_or, take, drop, ℤ, pos, neg_ℤ, Some, None, Option, ap, ◌∙◌, subst, inl, inr, arith, w16, SFits}
 use Rattle.std.proofs.lemmas.List.{take_rest}
 use Rattle.std.specs.Str.Parse.{AllDigits, digits_value}
-use Rattle.gatelog.specs.declared.entries.Entry.{Entry}
 use Rattle.gatelog.specs.declared.commands.Command.{Command}
 use Rattle.gatelog.specs.declared.commands.Command.TheVariants.{Record, Flush, Off}
-use Rattle.gatelog.specs.Entries.{Valid}
 use Rattle.gatelog.specs.Commands.{Figures, Writes, Says, ReadPosition, ReadNegative}
 use Rattle.gatelog.proofs.Codec.{unroll}
 

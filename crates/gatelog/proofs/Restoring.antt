@@ -3,7 +3,7 @@ use Rattle.std.specs.Option.{option_to_list}
 use Rattle.gatelog.specs.declared.entries.Entry.{Entry}
 use Rattle.gatelog.specs.declared.positions.Positions.{Positions}
 use Rattle.gatelog.specs.Entries.{decoded}
-use Rattle.gatelog.specs.Restored.{record_at, entries_in, moved, moved_all, latest, position_of, Stands}
+use Rattle.gatelog.specs.Restored.{record_at, entries_in, moved, moved_all, position_of, Stands}
 
 moved_push :
     (gate : ℕ) (es : List Entry) (e : Entry) (p : Option ℤ)

@@ -1,7 +1,6 @@
 use Rattle.std.specs.Prelude.{◌≡◌, ℕ, ◌+◌, ◌≤◌, ◌⊎◌, List, ◌∷◌, ◌++◌, length, ℤ, pos, neg_ℤ, Some, None, codes, Option, FitsSigned}
 use Rattle.std.specs.Int.{w16}
 use Rattle.std.specs.Str.Parse.{AllDigits, digits_value}
-use Rattle.gatelog.specs.declared.entries.Entry.{Entry}
 use Rattle.gatelog.specs.declared.commands.Command.{Command}
 use Rattle.gatelog.specs.declared.commands.Command.TheVariants.{Record, Flush, Off}
 use Rattle.gatelog.specs.Entries.{Valid}

@@ -1,7 +1,6 @@
-use Rattle.std.specs.Prelude.{◌≡◌, ℕ, zero, suc, ◌+◌, ◌*◌, ◌/◌, ◌%◌, ◌≤◌, Bool, cond, ◌&&◌, List, [], ◌∷◌, ◌++◌, length, ℤ, Some, None, Option, FitsSigned, ◌==◌, ◌≢◌, nat_le, slice_index}
+use Rattle.std.specs.Prelude.{◌≡◌, ℕ, ◌+◌, ◌*◌, ◌/◌, ◌%◌, ◌≤◌, Bool, cond, ◌&&◌, List, [], ◌∷◌, length, Some, None, Option, FitsSigned, ◌==◌, ◌≢◌, nat_le, slice_index}
 use Rattle.std.specs.Int.{w16}
 use Rattle.std.proofs.Common.{of_z, to_z}
-use Rattle.std.specs.Option.{option_to_list}
 use Rattle.gatelog.specs.declared.entries.Entry.{Entry}
 
 -- An entry that a cabinet can have: one of its gates 1 to 9, at a position of 16 bits.

@@ -1,5 +1,5 @@
 use Rattle.std.specs.Prelude.{◌≡◌, ℕ, ◌<◌, List, [], ◌∷◌, ◌++◌, Ok, Err, Result}
-use Rattle.std.specs.List.{flat_map, AllByRecursion as All}
+use Rattle.std.specs.List.{flat_map, AllByRecursion}
 use Rattle.streams.specs.Recorders.{Meaning, Arrive, empty, flushed}
 use Rattle.streams.specs.History.{History}
 use Rattle.gatelog.specs.declared.entries.Entry.{Entry}
@@ -10,7 +10,7 @@ use Rattle.gatelog.specs.Entries.{Valid, encoded}
 -- A recorder that was empty, with space for n bytes, has accepted the records of the entries es since then, in order,
 -- and no other bytes.
 pub record Accepted (n : ℕ) (es : List Entry) (s : Meaning) : Type 0 where
-  pub valid : All Valid es
+  pub valid : AllByRecursion Valid es
   pub history : History (empty n) (flat_map encoded es) s
 
 -- One entry is logged: its whole record arrives, or it is refused and nothing changes.

@@ -1,17 +1,16 @@
 -- From the loop of the cut to its answer.
-use Rattle.std.proofs.Common.{◌≡◌, ℕ, ◌<◌, ◌≤◌, min, List, [], ◌∷◌, ◌++◌, length, take, drop, Some, None, Ok, Err, Option, sym, ap, ◌∙◌, subst, append_assoc, append-nil, arith}
+use Rattle.std.proofs.Common.{◌≡◌, ℕ, ◌<◌, ◌≤◌, List, [], ◌∷◌, ◌++◌, length, take, drop, Some, None, Ok, Err, Option, sym, subst, append_assoc, append-nil, arith}
 use Rattle.std.proofs.lemmas.List.{drop_all, length-take}
 use Rattle.answers.specs.Declines.{place}
 use Rattle.answers.specs.declared.Place.{Place}
 use Rattle.answers.specs.declared.Decline.{Decline}
 use Rattle.answers.specs.declared.Decline.TheVariants.{TextTooLong, TooManyItems}
-use Rattle.symbols.specs.Cut.{Cut, ended, Verdict, too_long, declined, too_many, whole, entry, max_items}
+use Rattle.symbols.specs.Cut.{Cut, ended, too_long, declined, too_many, whole, entry, max_items}
 use Rattle.symbols.specs.Laws.{Answer}
 use Rattle.symbols.specs.declared.Symbol.{Symbol}
 use Rattle.symbols.specs.declared.Entry.{Entry}
 use Rattle.symbols.proofs.Examples.{answer}
-use Rattle.lexer.specs.Steps.{Joins, Over, Holds}
-use Rattle.lexer.specs.declared.table.Tally.{Tally}
+use Rattle.lexer.specs.Steps.{Joins, Over}
 
 -- the items es stand before `at`
 abbrev pub Reached : List ℕ → ℕ → List Entry → Type 0

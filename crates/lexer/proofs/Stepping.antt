@@ -1,17 +1,15 @@
 -- One step of the cut, by the rules.
-use Rattle.std.proofs.Common.{◌≡◌, ℕ, ◌+◌, ◌<◌, ◌≤◌, Bool, true, false, ltb, List, [], ◌∷◌, ◌++◌, length, get_or, take, drop, Some, None, Err, Option, sym, refl, ap, ◌∙◌, subst, arith}
+use Rattle.std.proofs.Common.{◌≡◌, ℕ, ◌+◌, ◌<◌, ◌≤◌, true, false, ltb, List, [], length, get_or, take, drop, Some, None, Err, Option, sym, refl, ap, ◌∙◌, subst, arith}
 use Rattle.std.proofs.lemmas.List.{drop-drop, drop_more, length-drop}
 use Rattle.std.proofs.lemmas.Bool.{ltb-true, false≢true}
 use Rattle.answers.specs.Declines.{place}
-use Rattle.answers.specs.declared.Decline.{Decline}
 use Rattle.answers.specs.declared.Decline.TheVariants.{BadByte, UnfinishedItem, IntegerTooLarge}
 use Rattle.symbols.specs.Bytes.{blank}
-use Rattle.symbols.specs.Cut.{Cut, layout, entry, max_integer}
-use Rattle.symbols.specs.See.{Sight, found, short, stuck, see, value_of}
+use Rattle.symbols.specs.Cut.{Cut, layout, max_integer}
+use Rattle.symbols.specs.See.{found, short, stuck, see, value_of}
 use Rattle.symbols.specs.Twin.{too_large}
 use Rattle.symbols.specs.declared.Symbol.{Symbol}
 use Rattle.symbols.specs.declared.Symbol.TheVariants.{Integer as IntegerSymbol}
-use Rattle.symbols.specs.declared.Entry.{Entry}
 use Rattle.symbols.proofs.Cutting.{cut_comment, cut_item, cut_large, cut_short, cut_stuck, not_large, some_byte, stuck_within}
 use Rattle.scanner.specs.declared.item.Item.{Item}
 use Rattle.scanner.specs.declared.item.Item.TheVariants.{Name, Word, Integer, Text, Mark, Comment}

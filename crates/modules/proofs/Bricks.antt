@@ -1,15 +1,15 @@
 -- Data bricks and procedures, step by step. Assumes nothing.
-use Rattle.std.proofs.Common.{◌≡◌, ℕ, ◌+◌, ◌-◌, ◌*◌, ◌<◌, ◌≤◌, List, [], ◌∷◌, ◌++◌, length, get_or, drop, set, sym, refl, ap, ◌∙◌, arith}
+use Rattle.std.proofs.Common.{◌≡◌, ℕ, ◌+◌, ◌-◌, ◌*◌, ◌<◌, ◌≤◌, List, [], ◌∷◌, ◌++◌, length, get_or, drop, set, refl, ap, ◌∙◌, arith}
 use Rattle.grammar.specs.Symbols.{STOP, NAME, SEMI, DATA, ENDDATA, PROC, ENDPROC, LEFT, RIGHT}
 use Rattle.grammar.specs.declared.Symbol.{Symbol}
-use Rattle.grammar.specs.Trees.{Token, token, key, mark, Many, of_many, Opt, of_opt, Dec, of_dec, Fields, of_fields, Mode, of_mode, Body, of_body, Brick, store, procedure, of_brick}
+use Rattle.grammar.specs.Trees.{Token, token, key, Many, of_many, Opt, of_opt, Dec, of_dec, Fields, of_fields, Mode, of_mode, of_body, Brick, store, procedure, of_brick}
 use Rattle.grammar.specs.Sentences.{items}
 use Rattle.grammar.specs.Machine.{Goal, refuse, tok, all, decs, maybe_fields, maybe_mode, a_brick, a_body, fewer}
 use Rattle.grammar.proofs.Steps.{items_here, step_at, sink_at, refuse_at, refuses}
 use Rattle.nodes.proofs.Build.{grown, not_on, token_refused, fewer_is, more_is}
 use Rattle.nodes.proofs.Keep.{keep_many, keep_opt, keep_dec, keep_init, keep_value, keep_fields, keep_mode, keep_body, agree_trans}
 use Rattle.nodes.specs.Made.{at, Made, Way, Refused}
-use Rattle.nodes.specs.Nodes.{At, Agree, IsMany, IsOpt, IsInit, IsValue, IsDec, IsFields, IsMode, IsBody, IsBrick}
+use Rattle.nodes.specs.Nodes.{Agree, IsMany, IsOpt, IsInit, IsValue, IsDec, IsFields, IsMode, IsBrick}
 use Rattle.nodes.specs.declared.Node.{Node}
 use Rattle.nodes.specs.declared.Node.TheVariants as node
 use Rattle.nodes.specs.declared.Parsed.{Parsed}

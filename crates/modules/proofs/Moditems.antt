@@ -1,24 +1,23 @@
 -- Module items, step by step. Assumes nothing.
-use Rattle.std.proofs.Common.{◌≡◌, ℕ, zero, suc, ◌+◌, ◌-◌, ◌*◌, ◌<◌, ◌≤◌, true, List, [], ◌∷◌, ◌++◌, length, get_or, drop, set, sym, refl, ap, ◌∙◌, arith}
+use Rattle.std.proofs.Common.{◌≡◌, ℕ, zero, suc, ◌+◌, ◌-◌, ◌<◌, ◌≤◌, true, List, [], ◌∷◌, ◌++◌, length, get_or, drop, set, sym, refl, ap, ◌∙◌, arith}
 use Rattle.grammar.specs.Symbols.{among, STOP, COMMA, NAME, DATA, PROC, EXT, MODE, ENT, LEFT, RIGHT}
 use Rattle.grammar.specs.declared.Symbol.{Symbol}
-use Rattle.grammar.specs.Trees.{Token, token, key, mark, Many, of_many, Opt, of_opt, Fields, of_fields, Mode, of_mode, of_names, Brick, of_brick, Moditem, blank, external_procs, external_store, record_mode, own, entry, of_moditem, Module, of_module}
-use Rattle.grammar.specs.Sentences.{items, fine, bad, Answer, Made as Made-of}
+use Rattle.grammar.specs.Trees.{Token, token, key, Many, of_many, Opt, of_opt, Fields, of_fields, Mode, of_mode, of_names, Brick, Moditem, blank, external_procs, external_store, record_mode, own, entry, of_moditem, Module, of_module}
+use Rattle.grammar.specs.Sentences.{items, fine, bad, Made as Made-of}
 use Rattle.grammar.specs.Machine.{Goal, Move, refuse, mapped, orelse, tok, each, all, moditems, declareds, unset, an_external, a_brick, the_fields, maybe_mode, maybe_modes, a_module, at_brick, fewer, run, step_to}
 use Rattle.grammar.proofs.Right.{clash, among_but as found_in}
 use Rattle.grammar.proofs.Steps.{items_here, step_at, sink_at, refuse_at, refuses, skip_at}
 use Rattle.nodes.proofs.Build.{grown, not_on, alike, token_refused, fewer_is, more_is}
 use Rattle.nodes.proofs.Keep.{keep_many, keep_opt, keep_name, keep_dec, keep_fields, keep_mode, keep_brick, agree_trans}
 use Rattle.nodes.specs.Made.{at, Made, Way, Refused}
-use Rattle.nodes.specs.Nodes.{Agree, IsMany, IsOpt, IsName, IsDec, IsFields, IsMode, IsBrick, IsModitem, IsModule}
+use Rattle.nodes.specs.Nodes.{Agree, IsMany, IsOpt, IsName, IsDec, IsFields, IsMode, IsModitem, IsModule}
 use Rattle.nodes.specs.declared.Node.{Node}
 use Rattle.nodes.specs.declared.Node.TheVariants as node
 use Rattle.nodes.specs.declared.Parsed.{Parsed}
 use Rattle.nodes.specs.declared.Fault.{Fault}
 use Rattle.nodes.specs.declared.Fault.TheVariants.{Syntax, Deep}
-use Rattle.declarations.specs.Declaring.{Listing, IsListing}
 use Rattle.declarations.specs.declared.bricks.Declaring.TheVariants.{Described}
-use Rattle.modules.specs.Bricks.{brick_firsts, Storing, of_storing}
+use Rattle.modules.specs.Bricks.{brick_firsts, Storing}
 use Rattle.modules.proofs.Bricks.{StoringMade, BrickMade, ResultMade}
 
 abbrev pub ModitemMade : ℕ → List Symbol → ℕ → ℕ → List Node → List Node → Parsed → Type 0

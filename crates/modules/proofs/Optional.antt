@@ -1,9 +1,9 @@
 -- What may be left out, step by step. Assumes nothing.
-use Rattle.std.proofs.Common.{◌≡◌, ℕ, ◌+◌, ◌*◌, ◌<◌, ◌≤◌, true, false, List, [], ◌∷◌, length, get_or, set, refl, ap, ◌∙◌, arith}
+use Rattle.std.proofs.Common.{◌≡◌, ℕ, ◌+◌, ◌<◌, ◌≤◌, true, false, List, [], ◌∷◌, length, get_or, set, refl, ap, ◌∙◌, arith}
 use Rattle.grammar.specs.Symbols.{among, STOP}
 use Rattle.grammar.specs.declared.Symbol.{Symbol}
-use Rattle.grammar.specs.Trees.{Spelling, Opt, none, some, of_opt, Mode, Fields, field}
-use Rattle.grammar.specs.Machine.{Goal, Move, optional, then, never, tok, fields_on, fielded, modes, all, a_mode, the_fields, maybe_fields, maybe_mode, maybe_modes, at_whole, move, skip}
+use Rattle.grammar.specs.Trees.{Spelling, Opt, none, some, of_opt, Mode, field}
+use Rattle.grammar.specs.Machine.{Goal, Move, optional, then, never, tok, fields_on, fielded, modes, all, a_mode, the_fields, maybe_fields, maybe_mode, maybe_modes, at_whole}
 use Rattle.grammar.specs.Symbols.{NAME}
 use Rattle.grammar.proofs.Steps.{skip_at}
 use Rattle.nodes.proofs.Build.{grown}

@@ -1,7 +1,7 @@
 -- A tree's nodes last while nodes are added. Assumes nothing.
-use Rattle.std.proofs.Common.{◌≡◌, ℕ, ◌<◌, ◌≤◌, ◌≢◌, List, length, get_or, set, ◌∙◌, arith, get_or-set_other, get_or-set_same}
-use Rattle.grammar.specs.Trees.{Expr, term, up, dyadic, Term, monadic, primary, Primary, integer, text, variable, call, call_on, paren, Variable, name, element, component, Exprs, first, comma, Many, one, more, Opt, none, some, Comparison, compare, Subcondition, Condition, Mode, int, byte, ref_int, ref_byte, ref_record, ref_array, ref_array_brackets, Amode, simple, records, Fields, field, also, next, Init, plain, given, Value, constant, signed, minus_signed, identifier, string, empty_list, list, Values, only, and, Entry, once, repeated, Dec, nothing, variables, arrays, structures, Local, local, Locals, no_locals, locals, Destination, place, val, Body, body, Sequence, single, sequel, Statement, dummy, block, assign, invoke, invoke_on, branch, branch_else, repeat, loop, return, return_with, Arms, when, elsewhen, Brick, store, procedure, Moditem, blank, external_procs, external_store, record_mode, own, entry, Module}
-use Rattle.nodes.specs.Nodes.{At, IsExpr, IsTerm, IsPrimary, IsVariable, IsExprs, Reading, IsMany, IsOpt, IsName, IsComparison, IsSubcondition, IsCondition, IsMode, IsAmode, IsFields, IsInit, IsValue, IsValues, IsEntry, IsDec, IsLocal, IsLocals, IsDestination, IsBody, IsSequence, IsStatement, IsArms, IsBrick, IsModitem, IsModule, Agree, blank_node}
+use Rattle.std.proofs.Common.{ℕ, ◌<◌, ◌≤◌, ◌≢◌, List, length, set, ◌∙◌, arith, get_or-set_other, get_or-set_same}
+use Rattle.grammar.specs.Trees.{Expr, term, up, dyadic, Term, monadic, primary, Primary, integer, text, variable, call, call_on, paren, Variable, name, element, component, Exprs, first, comma, one, more, none, some, compare, int, byte, ref_int, ref_byte, ref_record, ref_array, ref_array_brackets, simple, records, field, also, next, plain, given, constant, signed, minus_signed, identifier, string, empty_list, list, only, and, once, repeated, nothing, variables, arrays, structures, local, no_locals, locals, place, val, body, single, sequel, dummy, block, assign, invoke, invoke_on, branch, branch_else, repeat, loop, return, return_with, when, elsewhen, store, procedure, blank, external_procs, external_store, record_mode, own, entry}
+use Rattle.nodes.specs.Nodes.{At, IsExpr, IsTerm, IsPrimary, IsVariable, IsExprs, Reading, IsMany, IsOpt, IsName, IsComparison, IsSubcondition, IsCondition, IsMode, IsAmode, IsFields, IsInit, IsValue, IsValues, IsEntry, IsDec, IsLocal, IsLocals, IsDestination, IsBody, IsSequence, IsStatement, IsArms, IsBrick, IsModitem, Agree, blank_node}
 use Rattle.nodes.specs.declared.Node.{Node}
 
 module _ (n : ℕ) (ns ms : List Node) (a : Agree n ns ms) where

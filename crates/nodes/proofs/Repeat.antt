@@ -1,14 +1,14 @@
 -- A repetition, one and then a separator and one any number of times, that a loop reads into a list of nodes linked backwards. Assumes nothing.
-use Rattle.std.proofs.Common.{◌≡◌, ℕ, ◌+◌, ◌*◌, ◌<◌, ◌≤◌, List, [], ◌∷◌, ◌++◌, length, get_or, drop, set, sym, refl, ap, ◌∙◌, arith}
+use Rattle.std.proofs.Common.{◌≡◌, ℕ, ◌+◌, ◌<◌, ◌≤◌, List, [], ◌∷◌, length, get_or, drop, set, sym, refl, ap, ◌∙◌, arith}
 use Rattle.grammar.specs.Symbols.{STOP}
 use Rattle.grammar.specs.declared.Symbol.{Symbol}
-use Rattle.grammar.specs.Trees.{Token, token, key, mark, Spelling, Opt, none, some, Many}
+use Rattle.grammar.specs.Trees.{Token, key, mark, Opt, none, some}
 use Rattle.grammar.specs.Sentences.{items}
-use Rattle.grammar.specs.Machine.{Goal, Left, Forest, Repetition, exprs, ors, ands, statements, modes, entries, moditems, declareds, decs, Sort, unset, set as set-sort, Setting, stored, inblock, Single, Whole, begun, added, adds, all, each, rest, separator, level, step_to, may_end, is_some, pair, done, map_opt, void_each, void}
+use Rattle.grammar.specs.Machine.{Goal, Forest, Repetition, exprs, ors, ands, statements, modes, entries, moditems, declareds, decs, Sort, unset, set as set-sort, stored, inblock, Single, Whole, begun, added, adds, all, each, rest, separator, level, step_to, is_some, pair, done, void_each, void}
 use Rattle.grammar.proofs.Spell.{of_single, of_whole, begun_of, added_of}
 use Rattle.grammar.proofs.Steps.{items_here, step_at, skip_at, followed_at}
 use Rattle.nodes.proofs.Build.{grown, not_on}
-use Rattle.nodes.proofs.Keep.{agree_set, agree_trans, keep_expr, keep_exprs, keep_many, keep_comparison, keep_subcondition, keep_condition, keep_statement, keep_sequence, keep_mode, keep_entry, keep_values, keep_name, keep_init, keep_value, keep_dec, keep_moditem}
+use Rattle.nodes.proofs.Keep.{agree_trans, keep_expr, keep_exprs, keep_many, keep_comparison, keep_subcondition, keep_condition, keep_statement, keep_sequence, keep_mode, keep_entry, keep_values, keep_name, keep_init, keep_value, keep_dec, keep_moditem}
 use Rattle.nodes.specs.Made.{at, Made, Way, Refused}
 use Rattle.nodes.specs.Nodes.{At, Agree, Reading, IsExpr, IsExprs, IsMany, IsComparison, IsSubcondition, IsCondition, IsStatement, IsSequence, IsMode, IsEntry, IsValues, IsName, IsInit, IsValue, IsDec, IsModitem, IsModule}
 use Rattle.nodes.specs.declared.Node.{Node}

@@ -1,10 +1,10 @@
 -- What a function of the parser answers. Assumes nothing.
-use Rattle.std.specs.Prelude.{◌≡◌, ℕ, ◌+◌, ◌-◌, ◌*◌, ◌<◌, ◌≤◌, Bool, true, false, cond, List, [], ◌∷◌, ◌++◌, length, drop, ◌≢◌, slice_index_or}
+use Rattle.std.specs.Prelude.{◌≡◌, ℕ, ◌+◌, ◌-◌, ◌*◌, ◌<◌, ◌≤◌, true, cond, List, [], ◌∷◌, ◌++◌, length, drop, ◌≢◌, slice_index_or}
 use Rattle.grammar.specs.Symbols.{among, same, STOP, PLUS, MINUS, STAR, DIVIDE, MOD, LAND, LOR, NEV, ABS, NOT, BYTE, LENGTH, LEFT, RIGHT, DOT, COMMA, NAME, BECOMES, EQUAL, HASH, LESS, ATMOST, MORE, ATLEAST, IS, ISNT}
 use Rattle.grammar.specs.declared.Symbol.{Symbol}
-use Rattle.grammar.specs.Trees.{Spelling, Token, key, Many, of_many, of_name, Expr, Term, Primary, integer, text, variable, call, call_on, paren, Variable, Exprs, first, comma}
+use Rattle.grammar.specs.Trees.{Spelling, Token, key, Many, of_many, of_name, Primary, integer, text, variable, call, call_on, paren, Variable, Exprs, first, comma}
 use Rattle.grammar.specs.Sentences.{Answer, bad, deep, items}
-use Rattle.grammar.specs.Machine.{Goal, each, declareds, set, Setting, chain, the_fields, fields_on, tok, rest, exprs, argued, Stand, named, parts, a_primary, a_term, links_on, run, behind, next_goal, seen, Seen, just_name, one_index, longer}
+use Rattle.grammar.specs.Machine.{Goal, each, declareds, set, Setting, chain, the_fields, fields_on, tok, rest, exprs, argued, Stand, named, parts, a_term, links_on, run, behind, next_goal, seen, Seen, just_name, one_index, longer}
 use Rattle.nodes.specs.Nodes.{Agree}
 use Rattle.nodes.specs.declared.Node.{Node}
 use Rattle.nodes.specs.declared.Parsed.{Parsed}

@@ -1,5 +1,5 @@
 -- What two or three known bytes at the front of a text say of it.
-use Rattle.std.proofs.Common.{◌≡◌, ℕ, ◌<◌, ◌≤◌, List, [], ◌∷◌, length, get_or, take, arith}
+use Rattle.std.proofs.Common.{◌≡◌, ℕ, ◌≤◌, List, [], ◌∷◌, length, get_or, take, arith}
 
 pub two :
     (t : List ℕ) (a b : ℕ) → take 2 t ≡ a ∷ b ∷ [] → (2 ≤ length t) × (get_or t 0 0 ≡ a) × (get_or t 1 0 ≡ b)

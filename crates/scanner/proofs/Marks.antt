@@ -1,9 +1,9 @@
 -- The separator that the twin finds is the longest.
-use Rattle.std.proofs.Common.{◌≡◌, ℕ, ◌-◌, ◌≤◌, Bool, true, false, ◌&&◌, eqb, List, [], ◌∷◌, ◌++◌, length, take, drop, Some, sym, refl, ap, ◌∙◌, ⊎_elim, arith}
+use Rattle.std.proofs.Common.{◌≡◌, ℕ, ◌-◌, ◌≤◌, true, false, eqb, List, [], ◌∷◌, ◌++◌, length, take, drop, Some, sym, refl, ap, ◌∙◌, ⊎_elim, arith}
 use Rattle.std.proofs.lemmas.List.{take-append-drop, length-append, length-drop}
-use Rattle.std.proofs.lemmas.Bool.{eqb-true, eq-eqb, and_parts, cond-false, false≢true, cases_Bool}
+use Rattle.std.proofs.lemmas.Bool.{eqb-true, and_parts, cond-false, false≢true, cases_Bool}
 use Rattle.symbols.specs.Spellings.{sign}
-use Rattle.symbols.specs.See.{Sight, found, stuck, starts, see_mark, marks}
+use Rattle.symbols.specs.See.{found, stuck, starts, see_mark, marks}
 use Rattle.symbols.specs.declared.Symbol.TheVariants.{Mark}
 use Rattle.symbols.specs.declared.Separator.{Separator}
 use Rattle.symbols.specs.declared.Separator.TheVariants.{LeftBracket, RightBracket, Star, Plus, Minus, Comma, Point, Slash, Colon, Semicolon, Less, Equal, Greater, Hash, Becomes, Divide, DoubleSlash, AtMost, AtLeast, Same, Differs}

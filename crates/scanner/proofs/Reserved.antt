@@ -1,7 +1,7 @@
 -- The table of keywords and the keywords of the rules.
 use Rattle.std.proofs.Common.{◌≡◌, ℕ, ◌<◌, List, [], ◌∷◌, ◌++◌, map, length, get_or, None, sym, refl, ap, ◌∙◌, arith}
 use Rattle.std.proofs.lemmas.List.{length-map, map-append, get_or_at}
-use Rattle.names.specs.Spelling.{uppers, SameName, First}
+use Rattle.names.specs.Spelling.{uppers, First}
 use Rattle.symbols.specs.Spellings.{spelling}
 use Rattle.symbols.specs.See.{keywords}
 use Rattle.symbols.specs.declared.Keyword.{Keyword}

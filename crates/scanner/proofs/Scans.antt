@@ -1,5 +1,5 @@
 -- How the twin's parts come out where the code has measured a part of the text.
-use Rattle.std.proofs.Common.{◌≡◌, ℕ, ◌+◌, ◌-◌, ◌<◌, ◌≤◌, min, Bool, true, false, cond, ◌&&◌, eqb, ltb, List, [], ◌∷◌, ◌++◌, length, get_or, take, drop, Some, None, Err, Option, sym, refl, ap, ◌∙◌, ⊎_elim, arith}
+use Rattle.std.proofs.Common.{◌≡◌, ℕ, ◌+◌, ◌-◌, ◌<◌, ◌≤◌, min, Bool, true, false, ◌&&◌, eqb, ltb, List, [], ◌∷◌, length, get_or, take, drop, Some, Err, Option, sym, refl, ap, ◌∙◌, ⊎_elim, arith}
 use Rattle.std.specs.List.{prefix_len}
 use Rattle.std.proofs.lemmas.List.{drop-drop, drop_all, drop_more, length-drop, length-take, length-take-le, nil_from_length}
 use Rattle.std.proofs.lemmas.Bool.{cases_lt, lt-ltb, le-ltb, eq-eqb, ne_eqb, cond-true, cond-false, and_from, and_left, and_right}
@@ -7,7 +7,7 @@ use Rattle.answers.proofs.Fronts.{take_min}
 use Rattle.symbols.proofs.Covers.{word_at as word-behind}
 use Rattle.symbols.specs.Bytes.{space, name_byte}
 use Rattle.symbols.specs.Spellings.{sign, digit_in}
-use Rattle.symbols.specs.See.{Sight, found, short, stuck, keyword_of, base_of, named as named-as, see_word, see_name, see_based, see_behind, see_closing, see_enclosed}
+use Rattle.symbols.specs.See.{Sight, found, short, stuck, keyword_of, base_of, named as named-as, see_word, see_name, see_behind, see_closing, see_enclosed}
 use Rattle.symbols.specs.declared.Base.{Base}
 use Rattle.symbols.specs.declared.Symbol.{Symbol}
 use Rattle.symbols.specs.declared.Symbol.TheVariants.{Integer}

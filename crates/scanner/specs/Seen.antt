@@ -1,11 +1,9 @@
 -- What the functions of the cutter answer, in the words of the twin. Assumes nothing.
-use Rattle.std.specs.Prelude.{◌≡◌, ℕ, ◌<◌, ◌≤◌, Bool, false, List, [], ◌∷◌, ◌++◌, length, take, drop, Some, None, Ok, Err, codes, Option, Result, ◌≢◌, nat_lt}
+use Rattle.std.specs.Prelude.{◌≡◌, ℕ, ◌<◌, ◌≤◌, Bool, false, List, [], ◌∷◌, length, take, drop, Some, None, Ok, Err, codes, Option, Result, ◌≢◌, nat_lt}
 use Rattle.std.specs.Borrow.{Bor}
-use Rattle.names.specs.Spelling.{uppers}
-use Rattle.symbols.specs.Spellings.{spelling, sign}
+use Rattle.symbols.specs.Spellings.{sign}
 use Rattle.symbols.specs.Cut.{max_integer}
 use Rattle.symbols.specs.See.{Sight, found, short, stuck, value_of}
-use Rattle.symbols.specs.declared.Keyword.{Keyword}
 use Rattle.symbols.specs.declared.Separator.{Separator}
 use Rattle.symbols.specs.declared.Separator.TheVariants.{LeftBracket, RightBracket, Star, Plus, Minus, Comma, Point, Slash, Colon, Semicolon, Less, Equal, Greater, Hash, Becomes, Divide, DoubleSlash, AtMost, AtLeast, Same, Differs}
 use Rattle.symbols.specs.declared.Symbol.{Symbol}

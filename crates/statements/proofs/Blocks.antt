@@ -1,15 +1,14 @@
 -- Blocks, branches, loops and returns, step by step. Assumes nothing.
-use Rattle.std.proofs.Common.{◌≡◌, ℕ, ◌+◌, ◌-◌, ◌*◌, ◌<◌, ◌≤◌, List, [], ◌∷◌, ◌++◌, length, get_or, drop, set, sym, refl, ap, ◌∙◌, arith}
+use Rattle.std.proofs.Common.{◌≡◌, ℕ, ◌+◌, ◌-◌, ◌*◌, ◌<◌, ◌≤◌, List, [], ◌∷◌, ◌++◌, length, get_or, set, refl, ap, ◌∙◌, arith}
 use Rattle.grammar.specs.Symbols.{STOP, BLOCK, ENDBLOCK, IF, THEN, ELSEIF, ELSE, END, TO, WHILE, DO, REP, RETURN, VAL, NAME, LEFT}
 use Rattle.grammar.specs.declared.Symbol.{Symbol}
-use Rattle.grammar.specs.Trees.{Token, token, key, Opt, none, some, Expr, of_expr, Condition, of_condition, Body, Sequence, Statement, dummy, block, branch, branch_else, repeat, loop, return, return_with, Arms, when, elsewhen, of_body, of_sequence, of_statement, of_arms}
-use Rattle.grammar.specs.Sentences.{items}
+use Rattle.grammar.specs.Trees.{Token, token, key, none, some, Expr, of_expr, Condition, of_condition, Body, Sequence, dummy, block, branch, branch_else, repeat, loop, return, return_with, Arms, when, elsewhen, of_body, of_sequence, of_statement, of_arms}
 use Rattle.grammar.specs.Machine.{Goal, refuse, tok, all, ors, statements, an_expr, a_body, a_statement, arms_on, returned, step_to, level, fewer}
 use Rattle.grammar.proofs.Steps.{items_here, step_at, sink_at, refuse_at, refuses, skip_at}
 use Rattle.nodes.proofs.Build.{grown, not_on, token_refused, alike, fewer_is, more_is}
 use Rattle.nodes.proofs.Keep.{keep_expr, keep_condition, keep_body, keep_sequence, keep_arms, agree_trans}
 use Rattle.nodes.specs.Made.{at, Made, Way, Refused}
-use Rattle.nodes.specs.Nodes.{At, Agree, IsExpr, IsCondition, IsBody, IsSequence, IsStatement, IsArms}
+use Rattle.nodes.specs.Nodes.{Agree, IsExpr, IsCondition, IsBody, IsSequence, IsStatement, IsArms}
 use Rattle.nodes.specs.declared.Node.{Node}
 use Rattle.nodes.specs.declared.Node.TheVariants as node
 use Rattle.nodes.specs.declared.Parsed.{Parsed}

@@ -1,6 +1,5 @@
-use Rattle.std.proofs.Common.{◌≡◌, ℕ, zero, suc, ◌+◌, ◌-◌, ◌<◌, ◌≤◌, List, [], ◌∷◌, ◌++◌, length, take, set, Ok, Err, Result, sym, refl, ap, ◌∙◌, subst, append_assoc, append-nil, arith, length-set}
+use Rattle.std.proofs.Common.{◌≡◌, ℕ, zero, suc, ◌+◌, ◌-◌, ◌<◌, ◌≤◌, List, [], ◌∷◌, ◌++◌, length, take, set, Ok, sym, refl, ap, ◌∙◌, subst, append_assoc, append-nil, arith, length-set}
 use Rattle.std.proofs.lemmas.List.{take_more_set, length-take-le, length_push}
-use Rattle.streams.specs.declared.recorders.Full.{Full}
 use Rattle.streams.specs.Recorders.{Meaning, State, Kept, Arrive, Put, flushed}
 use Rattle.streams.specs.Kinds.{filled, over, Stores, Joined}
 use Rattle.streams.proofs.Laws.{arrive_whole}

@@ -27,7 +27,7 @@ fn a_page_declines_exactly_at_space_0(rt: HostRuntime) {
     assert_eq!(rt; page.put(2), Ok(()));
     assert_eq!(rt; page.put(3), Err(Full));
     assert_eq!(rt; page.space(), 0);
-    assert_eq!(rt; page.text(), &[1, 2]);
+    assert_eq!(rt; page.text(), [1, 2].as_slice());
     page.flush();
     assert_eq!(rt; page.space(), 0);
 }
@@ -70,7 +70,7 @@ fn a_blocker_passes_down_at_the_128th(rt: HostRuntime) {
     assert_eq!(rt; block.waiting().len(), 0);
     assert_eq!(rt; record_all(&mut block, &[1, 2, 3]), 2);
     assert_eq!(rt; block.put(9), Err(Full));
-    assert_eq!(rt; block.waiting(), &[1, 2]);
+    assert_eq!(rt; block.waiting(), [1, 2].as_slice());
     assert_eq!(rt; block.end().text().len(), 130);
 }
 

@@ -1,8 +1,7 @@
 -- The twin's verdict on a text meets the rules, and is the only one that does.
-use Rattle.std.proofs.Common.{◌≡◌, ℕ, zero, suc, ◌+◌, ◌<◌, ◌≤◌, Bool, true, false, cond, ltb, List, [], ◌∷◌, ◌++◌, length, Some, None, Ok, Err, Option, Result, sym, refl, ap, ◌∙◌, subst, arith}
+use Rattle.std.proofs.Common.{◌≡◌, ℕ, zero, suc, ◌≤◌, ltb, List, [], ◌∷◌, ◌++◌, length, Some, None, Option, Result, sym, refl, ap, ◌∙◌, subst, arith}
 use Rattle.std.proofs.lemmas.Bool.{cond-true, cond-false, cond_both, ltb-true, ltb-false, lt-ltb, le-ltb}
 use Rattle.answers.specs.declared.Decline.{Decline}
-use Rattle.answers.specs.declared.Decline.TheVariants.{TextTooLong, TooManyItems}
 use Rattle.symbols.specs.Cut.{Cut, Verdict, too_long, declined, too_many, whole, max_bytes, max_items}
 use Rattle.symbols.specs.Twin.{Cutting, cuts, beyond, counted, summed, verdict}
 use Rattle.symbols.specs.declared.Entry.{Entry}

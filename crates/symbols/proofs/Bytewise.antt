@@ -1,8 +1,8 @@
 -- How the classes of bytes stand to one another.
-use Rattle.std.proofs.Common.{◌≡◌, ℕ, ◌-◌, ◌<◌, ◌≤◌, Bool, true, false, cond, not, ◌&&◌, ◌||◌, eqb, leb, List, [], ◌∷◌, length, refl, arith}
+use Rattle.std.proofs.Common.{◌≡◌, ℕ, true, false, List, [], ◌∷◌, length, refl, arith}
 use Rattle.std.proofs.lemmas.Bool.Decides.{nat_tests}
 use Rattle.names.specs.Spelling.{upper, uppers}
-use Rattle.symbols.specs.Bytes.{within, letter, digit, name_byte, space, string_byte, comment_byte, blank, Each}
+use Rattle.symbols.specs.Bytes.{letter, digit, name_byte, space, Each}
 use Rattle.symbols.specs.Spellings.{base_word, digit_in}
 use Rattle.symbols.specs.declared.Base.{Base}
 use Rattle.symbols.specs.declared.Base.TheVariants.{Binary, Octal, Hexadecimal}

@@ -1,15 +1,14 @@
 -- Whatever stands behind an item, the twin finds an item that is no shorter there; and of the item alone it finds just that.
-use Rattle.std.proofs.Common.{◌≡◌, ℕ, suc, ◌+◌, ◌<◌, ◌≤◌, Bool, true, false, cond, ◌&&◌, eqb, ltb, List, [], ◌∷◌, ◌++◌, length, take, drop, replicate, Some, None, Option, sym, refl, ap, ◌∙◌, subst, append_assoc, append-nil, arith}
+use Rattle.std.proofs.Common.{◌≡◌, ℕ, suc, ◌+◌, ◌≤◌, Bool, true, false, cond, ◌&&◌, eqb, ltb, List, [], ◌∷◌, ◌++◌, length, take, drop, replicate, Some, None, Option, sym, refl, ap, ◌∙◌, subst, append_assoc, append-nil, arith}
 use Rattle.std.specs.List.{prefix_len}
-use Rattle.std.proofs.lemmas.List.{take_at, drop_at, length-append, length-map, length-replicate}
-use Rattle.std.proofs.lemmas.Bool.{cond-true, cond-false, cond_both, and_from, lt-ltb, both_ways}
-use Rattle.names.specs.Spelling.{uppers, upper}
+use Rattle.std.proofs.lemmas.List.{take_at, drop_at, length-append, length-replicate}
+use Rattle.std.proofs.lemmas.Bool.{cond-true, cond-false, cond_both, and_from, lt-ltb}
+use Rattle.names.specs.Spelling.{uppers}
 use Rattle.symbols.specs.Bytes.{letter, digit, name_byte, space, string_byte, comment_byte, Each}
-use Rattle.symbols.specs.Spellings.{spelling, sign, base_word, digit_in}
-use Rattle.symbols.specs.Items.{IsName, IsInteger, decimal, based, quoted, Enclosed, Spells, IsItem}
-use Rattle.symbols.specs.See.{Sight, found, short, stuck, named, keyword_of, base_of, starts, see_name, see_based, see_behind, see_word, see_closing, see_enclosed, see_quoted, see_mark, marks, see_by, see}
+use Rattle.symbols.specs.Spellings.{sign, base_word, digit_in}
+use Rattle.symbols.specs.Items.{IsName, IsInteger, decimal, based, quoted, Enclosed, IsItem}
+use Rattle.symbols.specs.See.{Sight, found, short, stuck, named, base_of, starts, see_name, see_based, see_behind, see_word, see_closing, see_enclosed, see_mark, marks, see}
 use Rattle.symbols.specs.declared.Base.{Base}
-use Rattle.symbols.specs.declared.Keyword.{Keyword}
 use Rattle.symbols.specs.declared.Symbol.{Symbol}
 use Rattle.symbols.specs.declared.Symbol.TheVariants.{Name, Integer, Text, Word, Mark}
 use Rattle.symbols.specs.declared.Separator.{Separator}

@@ -1,21 +1,21 @@
 -- The twin of the cut meets the rules, and the rules determine its answer.
-use Rattle.std.proofs.Common.{◌≡◌, ℕ, zero, suc, ◌+◌, ◌<◌, ◌≤◌, Bool, true, false, cond, ◌||◌, eqb, ltb, List, [], ◌∷◌, ◌++◌, length, take, drop, Some, None, Ok, Err, Option, Result, sym, refl, ap, ◌∙◌, subst, ⊎_elim, add-zero, arith}
+use Rattle.std.proofs.Common.{◌≡◌, ℕ, zero, suc, ◌+◌, ◌<◌, ◌≤◌, Bool, true, false, eqb, List, [], ◌∷◌, ◌++◌, length, take, drop, Some, None, Option, sym, refl, ap, ◌∙◌, subst, ⊎_elim, arith}
 use Rattle.std.proofs.lemmas.List.{take_at, drop_at, length-append, length-drop}
 use Rattle.std.proofs.lemmas.Bool.{cond-true, cond-false, cond_both, both_ways, cases_Bool, ltb-true, ltb-false, lt-ltb, le-ltb}
 use Rattle.std.proofs.lemmas.Bool.Decides.{nat_tests}
 use Rattle.answers.specs.Declines.{place}
 use Rattle.answers.specs.declared.Decline.{Decline}
-use Rattle.answers.specs.declared.Decline.TheVariants.{TextTooLong, BadByte, UnfinishedItem, IntegerTooLarge, TooManyItems}
-use Rattle.symbols.specs.Bytes.{blank, letter, digit}
-use Rattle.symbols.specs.Items.{IsInteger, IsItem, Item, Begins}
-use Rattle.symbols.specs.Cut.{Longest, NoItem, Cut, ended, layout, comment, item, large, unfinished, foreign, entry, max_integer, max_bytes, max_items}
-use Rattle.symbols.specs.See.{Sight, found, short, stuck, see, see_mark, marks, value_of}
-use Rattle.symbols.specs.Twin.{Cutting, declining, whole_text, behind, too_large, follow, cuts}
+use Rattle.answers.specs.declared.Decline.TheVariants.{BadByte, UnfinishedItem, IntegerTooLarge}
+use Rattle.symbols.specs.Bytes.{blank}
+use Rattle.symbols.specs.Items.{IsInteger, IsItem}
+use Rattle.symbols.specs.Cut.{NoItem, Cut, ended, layout, comment, item, large, unfinished, foreign, entry, max_integer}
+use Rattle.symbols.specs.See.{Sight, found, short, stuck, see, value_of}
+use Rattle.symbols.specs.Twin.{Cutting, behind, too_large, follow, cuts}
 use Rattle.symbols.specs.declared.Symbol.{Symbol}
 use Rattle.symbols.specs.declared.Symbol.TheVariants.{Name, Integer, Text, Word, Mark}
 use Rattle.symbols.specs.declared.Entry.{Entry}
 use Rattle.symbols.proofs.Values.{value_is}
-use Rattle.symbols.proofs.Rules.{Taken, taken, Stopped, stopped, no_item_short, no_item_stuck, begins_short, longest_seen, short_seen, stuck_seen}
+use Rattle.symbols.proofs.Rules.{taken, stopped, no_item_short, no_item_stuck, begins_short, longest_seen, short_seen, stuck_seen}
 use Rattle.symbols.proofs.Covers.{self}
 
 -- From what is seen to the rules.

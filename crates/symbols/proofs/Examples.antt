@@ -1,12 +1,11 @@
 -- The laws of specs/Laws.
-use Rattle.std.proofs.Common.{◌≡◌, ℕ, List, [], ◌∷◌, length, codes, Option, Result, sym, refl, ◌∙◌, subst}
-use Rattle.symbols.specs.Items.{IsInteger, decimal, based, quoted, IsItem}
+use Rattle.std.proofs.Common.{ℕ, List, [], ◌∷◌, codes, Result, sym, refl, ◌∙◌}
+use Rattle.symbols.specs.Items.{IsInteger, decimal, based, quoted}
 use Rattle.symbols.specs.Cut.{Verdict}
 use Rattle.answers.specs.declared.Decline.{Decline}
 use Rattle.symbols.specs.declared.Entry.{Entry}
 use Rattle.symbols.specs.Laws.{Answer, OneAnswer, OneMeaning, Bound, SameIs, HexIs, BinIs}
 use Rattle.symbols.specs.declared.Base.TheVariants.{Hexadecimal}
-use Rattle.symbols.specs.declared.Symbol.{Symbol}
 use Rattle.symbols.proofs.Values.{value_is}
 use Rattle.symbols.proofs.Covers.{self}
 use Rattle.symbols.proofs.Answer.{verdict_meets, verdict_only}

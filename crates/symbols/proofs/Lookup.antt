@@ -1,6 +1,6 @@
 -- What a list of bytes spells, found in a list of all that can be spelled.
-use Rattle.std.proofs.Common.{◌≡◌, ℕ, Bool, true, false, cond, ◌&&◌, eqb, List, [], ◌∷◌, Some, None, Option, sym, refl, ap, ◌∙◌, arith}
-use Rattle.std.proofs.lemmas.Bool.{eqb-true, and_parts, both_ways, false≢true}
+use Rattle.std.proofs.Common.{◌≡◌, ℕ, Bool, true, false, cond, eqb, List, [], ◌∷◌, Some, None, Option, refl, ap, ◌∙◌, arith}
+use Rattle.std.proofs.lemmas.Bool.{eqb-true, and_parts, false≢true}
 use Rattle.names.specs.Spelling.{uppers}
 use Rattle.symbols.specs.See.{Spelt, same, lookup, keywords, bases, keyword_of, base_of}
 use Rattle.symbols.specs.Spellings.{spelling, base_word}

@@ -1,12 +1,10 @@
 -- The items of a cut stand in the text one behind the other, each as its symbol is spelled.
-use Rattle.std.proofs.Common.{◌≡◌, ℕ, ◌+◌, ◌-◌, ◌<◌, ◌≤◌, List, [], ◌∷◌, ◌++◌, length, take, drop, Some, None, Ok, Err, Option, Result, sym, refl, ap, ◌∙◌, subst, arith}
+use Rattle.std.proofs.Common.{◌≡◌, ℕ, ◌+◌, ◌-◌, ◌<◌, ◌≤◌, List, [], ◌∷◌, ◌++◌, length, take, drop, Some, None, Ok, Option, Result, sym, refl, ap, ◌∙◌, subst, arith}
 use Rattle.std.proofs.lemmas.List.{drop-drop, drop_at, take_at, length-drop, length-append}
 use Rattle.answers.specs.declared.Decline.{Decline}
-use Rattle.symbols.specs.Items.{IsItem, Spells}
-use Rattle.symbols.specs.Cut.{Cut, ended, layout, comment, item, large, unfinished, foreign, Longest, Verdict, too_long, declined, too_many, whole, entry, covered}
+use Rattle.symbols.specs.Items.{Spells}
+use Rattle.symbols.specs.Cut.{Cut, ended, layout, comment, item, large, unfinished, foreign, Verdict, too_long, declined, too_many, whole, entry, covered}
 use Rattle.symbols.specs.Laws.{Laid, InOrder}
-use Rattle.symbols.specs.See.{see, found}
-use Rattle.symbols.specs.declared.Symbol.{Symbol}
 use Rattle.symbols.specs.declared.Entry.{Entry}
 use Rattle.symbols.proofs.Rules.{longest_seen}
 use Rattle.symbols.proofs.Cutting.{some_byte}

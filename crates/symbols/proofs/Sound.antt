@@ -1,23 +1,23 @@
 -- What the twin finds is an item there; where it finds none, the part before which it stops begins one, and no longer part does.
-use Rattle.std.proofs.Common.{◌≡◌, ℕ, suc, ◌+◌, ◌<◌, ◌≤◌, Bool, true, false, cond, ◌&&◌, eqb, ltb, List, [], ◌∷◌, ◌++◌, length, take, drop, replicate, Some, None, Option, sym, refl, ap, ◌∙◌, subst, ⊎_elim, append_assoc, append-nil, arith}
+use Rattle.std.proofs.Common.{◌≡◌, ℕ, ◌+◌, ◌<◌, Bool, true, false, cond, ◌&&◌, eqb, ltb, List, [], ◌∷◌, ◌++◌, length, drop, Some, None, Option, sym, refl, ap, ◌∙◌, subst, ⊎_elim, append_assoc, append-nil, arith}
 use Rattle.std.specs.List.{prefix_len}
-use Rattle.std.proofs.lemmas.List.{take_at, drop_at, take-append-drop, length-append, length-replicate}
+use Rattle.std.proofs.lemmas.List.{take_at, drop_at, length-append}
 use Rattle.std.proofs.lemmas.Bool.{cond-true, cond-false, cond_both, and_parts, and_left, and_from, ltb-true, eqb-true, false≢true, both_ways, cases_Bool}
 use Rattle.names.specs.Spelling.{uppers}
 use Rattle.symbols.specs.Bytes.{letter, digit, name_byte, space, string_byte, comment_byte, Each}
 use Rattle.symbols.specs.Spellings.{spelling, sign, base_word, radix, digit_in}
-use Rattle.symbols.specs.Items.{IsName, IsInteger, decimal, based, quoted, written, Enclosed, Spells, IsItem, Item, Begins}
-use Rattle.symbols.specs.See.{Sight, found, short, stuck, named, keywords, bases, keyword_of, base_of, starts, see_name, see_based, see_behind, see_word, see_closing, see_enclosed, see_quoted, see_mark, marks, see_by, see}
+use Rattle.symbols.specs.Items.{IsName, decimal, based, quoted, written, IsItem, Begins}
+use Rattle.symbols.specs.See.{Sight, found, short, stuck, named, keywords, bases, keyword_of, base_of, starts, see_name, see_based, see_behind, see_word, see_closing, see_enclosed, see_quoted, see_mark, marks, see}
 use Rattle.symbols.specs.declared.Base.{Base}
 use Rattle.symbols.specs.declared.Keyword.{Keyword}
 use Rattle.symbols.specs.declared.Symbol.{Symbol}
-use Rattle.symbols.specs.declared.Symbol.TheVariants.{Name, Integer, Text, Word, Mark}
+use Rattle.symbols.specs.declared.Symbol.TheVariants.{Integer, Text, Mark}
 use Rattle.symbols.specs.declared.Separator.{Separator}
 use Rattle.symbols.specs.declared.Separator.TheVariants.{LeftBracket, RightBracket, Star, Plus, Minus, Comma, Point, Slash, Colon, Semicolon, Less, Equal, Greater, Hash, Becomes, Divide, DoubleSlash, AtMost, AtLeast, Same, Differs}
 use Rattle.symbols.proofs.Lookup.{lookup_spells, keyword_is}
 use Rattle.symbols.proofs.Runs.{Stops, Parted, parted, leading_run, spaces}
 use Rattle.symbols.proofs.Bytewise.{letter_names}
-use Rattle.symbols.proofs.Covers.{word_at, letter_first, decimal_see, enclosed_at}
+use Rattle.symbols.proofs.Covers.{word_at, enclosed_at}
 
 abbrev pub Sound : List ℕ → Sight → Type 0
 Sound t (found f n) = (w : List ℕ) × (r : List ℕ) × (t ≡ w ++ r) × (length w ≡ n) × IsItem f w

@@ -1,14 +1,14 @@
 -- The value that the twin reads off an integer's bytes is the integer's.
-use Rattle.std.proofs.Common.{◌≡◌, ℕ, suc, ◌<◌, ◌≤◌, Bool, true, false, cond, ◌&&◌, eqb, leb, List, [], ◌∷◌, ◌++◌, length, take, drop, replicate, Some, sym, refl, ap, ◌∙◌, subst, arith}
+use Rattle.std.proofs.Common.{◌≡◌, ℕ, suc, true, false, eqb, List, [], ◌∷◌, ◌++◌, length, take, drop, replicate, Some, sym, refl, ap, ◌∙◌, subst, arith}
 use Rattle.std.specs.List.{prefix_len}
-use Rattle.std.proofs.lemmas.List.{take_at, drop_at, length-replicate}
-use Rattle.std.proofs.lemmas.Bool.{cond-false, and_left, ne_eqb}
+use Rattle.std.proofs.lemmas.List.{take_at, drop_at}
+use Rattle.std.proofs.lemmas.Bool.{cond-false}
 use Rattle.std.proofs.lemmas.Bool.Decides.{nat_tests}
 use Rattle.names.specs.Spelling.{uppers}
 use Rattle.symbols.specs.Bytes.{letter, digit, space, Each}
 use Rattle.symbols.specs.Spellings.{base_word, radix, digit_in}
 use Rattle.symbols.specs.Items.{IsInteger, decimal, based, quoted, written}
-use Rattle.symbols.specs.See.{base_of, base_radix, is_quoted, value_behind, value_of}
+use Rattle.symbols.specs.See.{base_radix, is_quoted, value_behind, value_of}
 use Rattle.symbols.specs.declared.Base.{Base}
 use Rattle.symbols.proofs.Lookup.{base_is}
 use Rattle.symbols.proofs.Runs.{leading_run, leading_stops, each_space}

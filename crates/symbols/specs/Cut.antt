@@ -1,5 +1,5 @@
 -- How a text is cut into items from the left, each as long as possible, and when it is declined. Assumes nothing.
-use Rattle.std.specs.Prelude.{◌≡◌, ℕ, ◌+◌, ◌-◌, ◌<◌, ◌≤◌, Bool, true, false, List, [], ◌∷◌, ◌++◌, length, take, drop, Some, None, Ok, Err, Option, Result}
+use Rattle.std.specs.Prelude.{◌≡◌, ℕ, ◌+◌, ◌-◌, ◌<◌, ◌≤◌, true, false, List, [], ◌∷◌, ◌++◌, length, take, drop, Some, None, Ok, Err, Option, Result}
 use Rattle.answers.specs.Declines.{place}
 use Rattle.answers.specs.declared.Decline.{Decline}
 use Rattle.answers.specs.declared.Decline.TheVariants.{TextTooLong, BadByte, UnfinishedItem, IntegerTooLarge, TooManyItems}

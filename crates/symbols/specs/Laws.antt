@@ -1,11 +1,10 @@
 -- The laws of items and of the cut that functions of this crate promise. Assumes nothing.
-use Rattle.std.specs.Prelude.{◌≡◌, ℕ, ◌<◌, ◌≤◌, List, [], ◌∷◌, ◌++◌, length, Some, None, Ok, Err, codes, Option, Result}
+use Rattle.std.specs.Prelude.{◌≡◌, ℕ, ◌<◌, ◌≤◌, List, [], ◌∷◌, length, Ok, Err, codes, Option, Result}
 use Rattle.answers.specs.Declines.{place}
 use Rattle.answers.specs.declared.Decline.{Decline}
 use Rattle.answers.specs.declared.Decline.TheVariants.{IntegerTooLarge}
 use Rattle.symbols.specs.Items.{IsInteger, IsItem, Spells}
 use Rattle.symbols.specs.Cut.{Verdict, entry, covered}
-use Rattle.symbols.specs.See.{see, Sight, value_of}
 use Rattle.symbols.specs.Twin.{verdict}
 use Rattle.symbols.specs.declared.Symbol.{Symbol}
 use Rattle.symbols.specs.declared.Symbol.TheVariants.{Integer, Mark, Word}

@@ -1,8 +1,8 @@
 -- From what the parser's functions answer to what a text is answered by. Assumes nothing.
-use Rattle.std.proofs.Common.{◌≡◌, ℕ, zero, suc, ◌-◌, ◌<◌, ◌≤◌, min, List, [], ◌∷◌, map, length, get_or, take, drop, Ok, Err, Result, sym, refl, ap, ◌∙◌, subst, arith}
+use Rattle.std.proofs.Common.{◌≡◌, ℕ, zero, suc, ◌-◌, ◌<◌, ◌≤◌, List, [], ◌∷◌, length, get_or, take, drop, Ok, Err, sym, refl, ap, ◌∙◌, subst, arith}
 use Rattle.std.proofs.lemmas.List.{take_all}
 use Rattle.answers.specs.declared.Place.{Place}
-use Rattle.symbols.specs.Cut.{Verdict, too_long, declined, too_many, whole}
+use Rattle.symbols.specs.Cut.{Verdict, whole}
 use Rattle.symbols.specs.declared.Entry.{Entry}
 use Rattle.grammar.specs.declared.Symbol.{Symbol}
 use Rattle.grammar.specs.Trees.{Module}

@@ -1,8 +1,8 @@
-use Rattle.std.proofs.Common.{◌≡◌, ◌+◌, ◌-◌, ◌<◌, ◌≤◌, length, get_or, sym, refl, ap, ◌∙◌, arith}
+use Rattle.std.proofs.Common.{sym, refl, ◌∙◌, arith}
 use Rattle.std.proofs.lemmas.Result.{err_from_is_err_and}
-use Rattle.grammar.specs.Symbols.{STOP, NAME, INTEGER, TEXT, COMMA, LEFT, RIGHT}
+use Rattle.grammar.specs.Symbols.{NAME, INTEGER, TEXT, COMMA, LEFT, RIGHT}
 use Rattle.grammar.specs.Machine.{all, entries}
-use Rattle.nodes.proofs.Results.{otherwise, differs, agrees}
+use Rattle.nodes.proofs.Results.{differs, agrees}
 use Rattle.nodes.proofs.Build.{far}
 use Rattle.nodes.proofs.Repeat.{entries_list, entries_begin, starts, first_refused, refused, goes, ends}
 use Rattle.declarations.proofs.Initials.{value_none, made_constant, made_identifier, made_literal, list_deep, made_empty, list_refused, list_unclosed, made_list, entry_refused, made_once, times_deep, no_times, times_unclosed, made_repeated}

@@ -1,6 +1,6 @@
-use Rattle.std.proofs.Common.{◌≡◌, ◌+◌, ◌-◌, ◌<◌, ◌≤◌, length, get_or, sym, refl, ap, ◌∙◌, arith}
+use Rattle.std.proofs.Common.{◌≡◌, get_or, sym, refl, ◌∙◌, arith}
 use Rattle.std.proofs.lemmas.Result.{err_from_is_err_and}
-use Rattle.grammar.specs.Symbols.{STOP, NAME, INT, BYTE, REF, ARRAY, LEFT, RIGHT}
+use Rattle.grammar.specs.Symbols.{STOP, NAME, INT, BYTE, LEFT, RIGHT}
 use Rattle.nodes.proofs.Results.{otherwise, differs, agrees}
 use Rattle.nodes.proofs.Build.{far}
 use Rattle.declarations.proofs.Modes.{mode_none, simple_refused, made_simple, made_int, made_byte, made_records, target_none, made_ref_int, made_ref_byte, made_ref_record, bare_refused, made_array, dims_deep, dims_unclosed, dims_refused, made_brackets}

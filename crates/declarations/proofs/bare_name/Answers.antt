@@ -1,4 +1,4 @@
-use Rattle.std.proofs.Common.{◌≡◌, sym, refl, ◌∙◌, arith}
+use Rattle.std.proofs.Common.{sym, refl, ◌∙◌, arith}
 use Rattle.grammar.specs.Symbols.{NAME}
 use Rattle.nodes.proofs.Results.{differs, agrees}
 use Rattle.nodes.proofs.Build.{far}

@@ -1,8 +1,7 @@
-use Rattle.std.proofs.Common.{◌≡◌, ◌+◌, ◌-◌, ◌<◌, ◌≤◌, length, get_or, sym, refl, ap, ◌∙◌, arith}
+use Rattle.std.proofs.Common.{sym, refl, ◌∙◌, arith}
 use Rattle.std.proofs.lemmas.Result.{err_from_is_err_and}
-use Rattle.grammar.specs.Symbols.{STOP, NAME, INTEGER, TEXT, PLUS, MINUS, COMMA, LEFT, RIGHT}
-use Rattle.grammar.specs.Machine.{all, entries}
-use Rattle.nodes.proofs.Results.{otherwise, differs, agrees}
+use Rattle.grammar.specs.Symbols.{NAME}
+use Rattle.nodes.proofs.Results.{differs, agrees}
 use Rattle.nodes.proofs.Build.{far}
 use Rattle.declarations.proofs.Components.{made_also, further_refused, further_no_name, made_next}
 use Rattle.declarations.proofs.further.Goals as goal

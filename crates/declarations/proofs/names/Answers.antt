@@ -1,7 +1,7 @@
-use Rattle.std.proofs.Common.{◌≡◌, sym, refl, ◌∙◌, arith}
+use Rattle.std.proofs.Common.{sym, refl, ◌∙◌, arith}
 use Rattle.std.proofs.lemmas.Result.{err_from_is_err_and}
 use Rattle.grammar.specs.Symbols.{COMMA}
-use Rattle.grammar.specs.Machine.{all, declareds, unset, set as set-sort, stored, inblock}
+use Rattle.grammar.specs.Machine.{all, declareds, unset}
 use Rattle.nodes.proofs.Build.{far}
 use Rattle.nodes.proofs.Repeat.{names_list, declareds_begin, starts, first_refused, refused, goes, ends}
 use Rattle.declarations.proofs.names.Goals as goal

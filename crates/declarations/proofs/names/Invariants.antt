@@ -1,5 +1,5 @@
 use Rattle.std.proofs.Common.{◌-◌, length}
-use Rattle.grammar.specs.Machine.{all, declareds, unset, set as set-sort, stored, inblock}
+use Rattle.grammar.specs.Machine.{all, declareds, unset}
 use Rattle.nodes.proofs.Repeat.{SomeMade, names_list}
 use Rattle.declarations.proofs.names.Given as goal
 

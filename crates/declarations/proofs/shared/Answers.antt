@@ -1,12 +1,8 @@
-use Rattle.std.proofs.Common.{◌≡◌, ◌+◌, ◌-◌, ◌<◌, ◌≤◌, length, get_or, sym, refl, ap, ◌∙◌, arith, length-set}
+use Rattle.std.proofs.Common.{◌<◌, length, refl, arith, length-set}
 use Rattle.nodes.specs.declared.Node.TheVariants.{Name}
-use Rattle.std.proofs.lemmas.Result.{err_from_is_err_and}
-use Rattle.grammar.specs.Symbols.{STOP, NAME, BECOMES}
-use Rattle.grammar.specs.Machine.{stored, inblock}
-use Rattle.nodes.proofs.Results.{unequal, not_unequal}
-use Rattle.nodes.proofs.Build.{far, rebased}
+use Rattle.nodes.proofs.Build.{rebased}
 use Rattle.nodes.proofs.Keep.{agree_set, agree_trans}
-use Rattle.declarations.proofs.Sharing.{first_name, more_names, no_name, made_plain, init_refused, made_given}
+use Rattle.declarations.proofs.Sharing.{first_name, more_names}
 use Rattle.declarations.proofs.shared.Goals as goal
 
 pub loop-nodes-init : goal.loop-nodes-init
@@ -16,7 +12,7 @@ loop-nodes-init c =
 
 pub loop-nodes-preserved : goal.loop-nodes-preserved
 loop-nodes-preserved c =
-    let q = c.loop-nodes-test.ensures.says in
+    let q = c.loop-nodes-test.ensures in
     let v = c.loop-nodes.invariant in
     let k = c.loop-nodes.auto.nodes in
     (more_names c.args.s.now c.args.i c.args.used _ c.loop-nodes.nodes c.loop-nodes.at v.0 q (omega (arith, q.2, v.1, k, length-set c.args.nodes.now c.args.used (Name c.args.i))), omega (arith, v.1))
@@ -24,4 +20,4 @@ loop-nodes-preserved c =
 pub returns : goal.returns
 returns c =
     let v = c.loop-nodes.invariant in
-    (rebased 0 _ _ _ _ _ _ _ _ _ _ (agree_trans c.args.used c.args.used _ _ _ (omega arith) (agree_set c.args.used c.args.used c.args.nodes.now _ (omega arith)) v.0.kept) v.0, (λ q. c.loop-nodes-test.ensures.says q), v.1)
+    (rebased 0 _ _ _ _ _ _ _ _ _ _ (agree_trans c.args.used c.args.used _ _ _ (omega arith) (agree_set c.args.used c.args.used c.args.nodes.now _ (omega arith)) v.0.kept) v.0, (λ q. c.loop-nodes-test.ensures q), v.1)

@@ -17,6 +17,6 @@ returns c =
     let e = agrees u in
     let h = c.peek.ensures.there (far INTEGER _ refl e) in
     elim c.if-eq.branch [
-      | then-eq w ↦ rw w.nodes-is (made_plus c.args.depth c.args.s.now c.args.i c.args.used c.args.nodes.now c.requires.there c.requires.sign h (sym c.peek.ensures.is ∙ e) (omega (arith, h)) (sym c.peek-2.ensures.is ∙ w.if-eq.ensures))
-      | else-eq w ↦ rw w.nodes-is (made_minus c.args.depth c.args.s.now c.args.i c.args.used c.args.nodes.now c.requires.there c.requires.sign h (sym c.peek.ensures.is ∙ e) (omega (arith, h)) (λ x. w.if-eq.ensures (c.peek-2.ensures.is ∙ x)))
+      | then-eq w ↦ rw w.nodes-is (made_plus c.args.depth c.args.s.now c.args.i c.args.used c.args.nodes.now c.requires.there c.requires.sign h (sym c.peek.ensures.is ∙ e) (omega (arith, h)) (sym c.peek-2.ensures.is ∙ w.if-eq.ensures.says))
+      | else-eq w ↦ rw w.nodes-is (made_minus c.args.depth c.args.s.now c.args.i c.args.used c.args.nodes.now c.requires.there c.requires.sign h (sym c.peek.ensures.is ∙ e) (omega (arith, h)) (λ x. w.if-eq.ensures.says (c.peek-2.ensures.is ∙ x)))
     ]

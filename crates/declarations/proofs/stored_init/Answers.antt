@@ -1,10 +1,10 @@
-use Rattle.std.proofs.Common.{◌≡◌, ◌+◌, ◌-◌, ◌<◌, ◌≤◌, length, get_or, sym, refl, ap, ◌∙◌, arith}
+use Rattle.std.proofs.Common.{sym, refl, ◌∙◌, arith}
 use Rattle.std.proofs.lemmas.Result.{err_from_is_err_and}
-use Rattle.grammar.specs.Symbols.{STOP, NAME, BECOMES}
-use Rattle.grammar.specs.Machine.{stored, inblock}
+use Rattle.grammar.specs.Symbols.{NAME}
+use Rattle.grammar.specs.Machine.{stored}
 use Rattle.nodes.proofs.Results.{differs, agrees}
-use Rattle.nodes.proofs.Build.{far, rebased}
-use Rattle.declarations.proofs.Sharing.{first_name, more_names, no_name, made_plain, init_refused, made_given}
+use Rattle.nodes.proofs.Build.{far}
+use Rattle.declarations.proofs.Sharing.{no_name, made_plain, init_refused, made_given}
 use Rattle.declarations.proofs.stored_init.Goals as goal
 
 pub returns-then-ne : goal.returns-then-ne

@@ -1,7 +1,7 @@
-use Rattle.std.proofs.Common.{◌≡◌, sym, refl, ◌∙◌, arith}
+use Rattle.std.proofs.Common.{sym, refl, ◌∙◌, arith}
 use Rattle.std.proofs.lemmas.Result.{err_from_is_err_and}
 use Rattle.grammar.specs.Symbols.{COMMA}
-use Rattle.grammar.specs.Machine.{all, declareds, unset, set as set-sort, stored, inblock}
+use Rattle.grammar.specs.Machine.{all, declareds, set as set-sort, stored}
 use Rattle.nodes.proofs.Build.{far}
 use Rattle.nodes.proofs.Repeat.{stored_list, declareds_begin, starts, first_refused, refused, goes, ends}
 use Rattle.declarations.proofs.stored_inits.Goals as goal

@@ -1,5 +1,5 @@
 use Rattle.std.proofs.Common.{◌-◌, length}
-use Rattle.grammar.specs.Machine.{all, declareds, unset, set as set-sort, stored, inblock}
+use Rattle.grammar.specs.Machine.{all, declareds, set as set-sort, stored}
 use Rattle.nodes.proofs.Repeat.{SomeMade, stored_list}
 use Rattle.declarations.proofs.stored_inits.Given as goal
 

@@ -1,6 +1,6 @@
-use Rattle.std.proofs.Common.{◌≡◌, ◌+◌, ◌-◌, ◌<◌, ◌≤◌, true, false, [], ◌∷◌, length, get_or, set, sym, refl, ap, ◌∙◌, arith, length-set}
+use Rattle.std.proofs.Common.{◌≡◌, ◌+◌, ◌-◌, ◌<◌, true, ◌∷◌, length, set, sym, refl, ap, ◌∙◌, arith, length-set}
 use Rattle.std.proofs.lemmas.Result.{err_from_is_err_and}
-use Rattle.grammar.specs.Symbols.{among, STOP, NAME, INTEGER, TEXT, LEFT, RIGHT, COMMA, DOT}
+use Rattle.grammar.specs.Symbols.{among, NAME, INTEGER, TEXT, LEFT, RIGHT, COMMA, DOT}
 use Rattle.grammar.specs.Machine.{links_on}
 use Rattle.nodes.specs.Nodes.{Agree}
 use Rattle.nodes.specs.declared.Node.TheVariants.{Name, Element}
@@ -9,7 +9,7 @@ use Rattle.nodes.proofs.Keep.{agree_set, at_set, agree_trans}
 use Rattle.nodes.proofs.Results.{otherwise, differs, agrees}
 use Rattle.nodes.proofs.Build.{far, rebased}
 use Rattle.expressions.proofs.Forms.{brackets_deep, brackets_refused, brackets_unclosed, made_brackets, primary_none, made_integer, made_text, paren_refused, made_paren, form_refused, made_form, variable_ends, counts, form_of, left_refused, left_goes, dot_refused, dot_goes, made_name, called_deep, made_call, argument_refused, argument_unclosed, first_argument, made_element, more_refused, more_goes, more_unclosed, made_calls}
-use Rattle.expressions.proofs.Levels.{monads_start, monads_more, term_refused, term_plain, term_monad, term_ends, no_stop, no_operator, level_zero, level_up, level_refused, level_goes, level_ends, expr_made, expr_refused}
+use Rattle.expressions.proofs.Levels.{monads_more, term_refused, term_plain, term_monad, term_ends, no_stop, no_operator, level_zero, level_up, level_refused, level_goes, level_ends, expr_made, expr_refused}
 use Rattle.expressions.proofs.+expressions.Goals as goal
 
 pub applied-returns-then-depth-eq0 : goal.applied-returns-then-depth-eq0
@@ -126,12 +126,12 @@ level-loop-nodes-preserved t c = level_goes c.args.depth c.args.s.now c.args.i c
 pub level-returns : goal.level-returns
 level-returns t c = level_ends c.args.depth c.args.s.now c.args.i c.args.used (c.args.n - 1) _ _ c.loop-nodes.at c.loop-nodes.invariant c.args.n (omega arith) _ c.in_ok-at.ensures.kept (λ e. c.loop-nodes-test.false (c.rank.ensures ∙ ap rank-of c.peek.ensures.is ∙ e))
 
-pub primary-returns-in_err-e : goal.primary-returns-in_err-e
-primary-returns-in_err-e t c =
+pub primary-returns-in_err-e-in-Left : goal.primary-returns-in_err-e-in-Left
+primary-returns-in_err-e-in-Left t c =
     let p = err_from_is_err_and c.from_residual.result c.from_residual.ensures.1 in
     let n = c.in-Left.ensures in
     let h : c.args.i < length c.args.s.now = n.there (far LEFT _ refl refl) in
-    rw (p.1, p.2) (paren_refused c.args.depth c.args.s.now c.args.i c.args.used c.args.nodes.now h (sym n.is) _ c.in_err-e.ensures)
+    rw (p.1, p.2) (paren_refused c.args.depth c.args.s.now c.args.i c.args.used c.args.nodes.now h (sym n.is) _ c.in_err-e-in-Left.ensures)
 
 pub primary-returns-in-Integer : goal.primary-returns-in-Integer
 primary-returns-in-Integer t c =
@@ -151,12 +151,12 @@ primary-returns-in-Name t c =
     let h : c.args.i < length c.args.s.now = n.there (far NAME _ refl refl) in
     otherwise c.form.result (λ p m. made_form c.args.depth c.args.s.now c.args.i c.args.used _ h (sym n.is) _ p m) (λ f r. form_refused c.args.depth c.args.s.now c.args.i c.args.used c.args.nodes.now h (sym n.is) f r) c.form.ensures
 
-pub primary-returns-in_ok-e : goal.primary-returns-in_ok-e
-primary-returns-in_ok-e t c =
-    let m = c.in_ok-e.ensures in
+pub primary-returns-in_ok-e-in-Left : goal.primary-returns-in_ok-e-in-Left
+primary-returns-in_ok-e-in-Left t c =
+    let m = c.in_ok-e-in-Left.ensures in
     let n = c.in-Left.ensures in
     let h : c.args.i < length c.args.s.now = n.there (far LEFT _ refl refl) in
-    made_paren c.args.depth c.args.s.now c.args.i c.args.used _ h (sym n.is) _ c.in_ok-e.e (omega (arith, m)) m.0 m.1
+    made_paren c.args.depth c.args.s.now c.args.i c.args.used _ h (sym n.is) _ c.in_ok-e-in-Left.e (omega (arith, m)) m.0 m.1
 
 pub primary-returns-in_default : goal.primary-returns-in_default
 primary-returns-in_default t c =
@@ -187,19 +187,19 @@ term-returns t c = term_ends c.args.depth c.args.s.now c.args.i c.loop-k-2.k c.a
 pub variable-loop-nodes-init : goal.variable-loop-nodes-init
 variable-loop-nodes-init t c = (c.requires.counted, λ b m. m)
 
-pub variable-returns-in_err-e : goal.variable-returns-in_err-e
-variable-returns-in_err-e t c b m =
+pub variable-returns-in_err-e-in-Left : goal.variable-returns-in_err-e-in-Left
+variable-returns-in_err-e-in-Left t c b m =
     let p = err_from_is_err_and c.from_residual.result c.from_residual.ensures.1 in
     let n = c.in-Left.ensures in
-    rw (p.1, p.2) (left_refused b c.args.depth c.args.s.now c.args.i c.args.used _ _ c.loop-nodes.at (c.loop-nodes.invariant.1 b m) (n.there (far LEFT _ refl refl)) (sym n.is) _ c.in_err-e.ensures)
+    rw (p.1, p.2) (left_refused b c.args.depth c.args.s.now c.args.i c.args.used _ _ c.loop-nodes.at (c.loop-nodes.invariant.1 b m) (n.there (far LEFT _ refl refl)) (sym n.is) _ c.in_err-e-in-Left.ensures)
 
 pub variable-loop-nodes-preserved-in-Left : goal.variable-loop-nodes-preserved-in-Left
 variable-loop-nodes-preserved-in-Left t c =
-    let m = c.in_ok-e.ensures in
+    let m = c.in_ok-e-in-Left.ensures in
     let n = c.in-Left.ensures in
     let v = c.loop-nodes.invariant.0 in (
       record { within = m.0.within; more = omega (arith, v.more, m.0.more); few = omega (arith, v.few, m.1); below = omega arith },
-      λ b x. left_goes b c.args.depth c.args.s.now c.args.i c.args.used _ _ c.loop-nodes.at (c.loop-nodes.invariant.1 b x) (n.there (far LEFT _ refl refl)) (sym n.is) _ c.in_ok-e.e (omega (arith, m, v)) m.0 m.1,
+      λ b x. left_goes b c.args.depth c.args.s.now c.args.i c.args.used _ _ c.loop-nodes.at (c.loop-nodes.invariant.1 b x) (n.there (far LEFT _ refl refl)) (sym n.is) _ c.in_ok-e-in-Left.e (omega (arith, m, v)) m.0 m.1,
     )
 
 pub variable-returns-then-ne : goal.variable-returns-then-ne

@@ -1,7 +1,7 @@
-use Rattle.std.proofs.Common.{◌≡◌, sym, refl, ◌∙◌, arith}
+use Rattle.std.proofs.Common.{sym, refl, ◌∙◌, arith}
 use Rattle.std.proofs.lemmas.Result.{err_from_is_err_and}
 use Rattle.grammar.specs.Symbols.{OR}
-use Rattle.grammar.specs.Machine.{each, all, ors}
+use Rattle.grammar.specs.Machine.{all, ors}
 use Rattle.nodes.proofs.Build.{far}
 use Rattle.nodes.proofs.Repeat.{ors_list, conditions_begin, starts, first_refused, refused, goes, ends}
 use Rattle.expressions.proofs.condition.Goals as goal

@@ -1,6 +1,6 @@
 use Rattle.std.proofs.Common.{◌-◌, length}
-use Rattle.grammar.specs.Machine.{each, all, ors}
-use Rattle.nodes.proofs.Repeat.{SomeMade, ands_list, ors_list}
+use Rattle.grammar.specs.Machine.{all, ors}
+use Rattle.nodes.proofs.Repeat.{SomeMade, ors_list}
 use Rattle.expressions.proofs.condition.Given as goal
 
 abbrev pub invariant-loop-nodes : goal.invariant-loop-nodes

@@ -1,7 +1,7 @@
-use Rattle.std.proofs.Common.{◌≡◌, sym, refl, ◌∙◌, arith}
+use Rattle.std.proofs.Common.{sym, refl, ◌∙◌, arith}
 use Rattle.std.proofs.lemmas.Result.{err_from_is_err_and}
 use Rattle.grammar.specs.Symbols.{AND}
-use Rattle.grammar.specs.Machine.{each, all, ors}
+use Rattle.grammar.specs.Machine.{each, ors}
 use Rattle.nodes.proofs.Build.{far}
 use Rattle.nodes.proofs.Repeat.{ands_list, ors_begin, starts, first_refused, refused, goes, ends}
 use Rattle.expressions.proofs.subcondition.Goals as goal

@@ -1,4 +1,4 @@
-use Rattle.std.proofs.Common.{◌-◌, ◌∙◌}
+use Rattle.std.proofs.Common.{◌∙◌}
 use Rattle.modules.proofs.Bricks.{brick_none}
 use Rattle.modules.proofs.brick.Goals as goal
 

@@ -1,4 +1,4 @@
-use Rattle.std.proofs.Common.{◌-◌, arith}
+use Rattle.std.proofs.Common.{arith}
 use Rattle.std.proofs.lemmas.Result.{err_from_is_err_and}
 use Rattle.modules.proofs.Bricks.{data_refused, made_data}
 use Rattle.modules.proofs.data_brick.Goals as goal

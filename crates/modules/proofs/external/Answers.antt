@@ -1,4 +1,4 @@
-use Rattle.std.proofs.Common.{◌-◌, ◌∙◌}
+use Rattle.std.proofs.Common.{◌∙◌}
 use Rattle.modules.proofs.Moditems.{external_none}
 use Rattle.modules.proofs.external.Goals as goal
 

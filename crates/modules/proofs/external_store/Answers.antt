@@ -1,4 +1,4 @@
-use Rattle.std.proofs.Common.{◌-◌, arith}
+use Rattle.std.proofs.Common.{arith}
 use Rattle.std.proofs.lemmas.Result.{err_from_is_err_and}
 use Rattle.modules.proofs.Moditems.{ext_data_refused, made_ext_data}
 use Rattle.modules.proofs.external_store.Goals as goal

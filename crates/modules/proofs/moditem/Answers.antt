@@ -1,4 +1,4 @@
-use Rattle.std.proofs.Common.{◌-◌, ◌∙◌, arith}
+use Rattle.std.proofs.Common.{◌∙◌, arith}
 use Rattle.modules.proofs.Moditems.{made_blank}
 use Rattle.modules.proofs.moditem.Goals as goal
 

@@ -3,8 +3,8 @@ use Rattle.std.proofs.lemmas.List.{length-map}
 use Rattle.names.proofs.Laws.{parted, none_before, name_same}
 use Rattle.names.proofs.entry.Goals as goal
 
-pub offset-bounds-entries-i : goal.offset-bounds-entries-i
-offset-bounds-entries-i g c =
+pub offset_bounds-entries-i : goal.offset_bounds-entries-i
+offset_bounds-entries-i g c =
     omega (arith, c.in-Some.ensures.0, length-map c.args.entries.now g.N.Named.spelled)
 
 pub bounds-entries-i : goal.bounds-entries-i

@@ -1,4 +1,4 @@
-use Rattle.std.proofs.Common.{◌≡◌, ◌+◌, ◌≤◌, length, take}
+use Rattle.std.proofs.Common.{◌≡◌, ◌+◌, ◌≤◌, take}
 use Rattle.std.specs.List.{suffix_len}
 use Rattle.answers.specs.Lines.{within_line}
 use Rattle.answers.proofs.Place.column.Given as goal

@@ -1,4 +1,4 @@
-use Rattle.std.proofs.Common.{◌≡◌, ◌+◌, ◌-◌, map, length, take, drop}
+use Rattle.std.proofs.Common.{◌≡◌, ◌+◌, ◌-◌, map, take, drop}
 use Rattle.answers.specs.Figures.{Wrote, figure}
 use Rattle.answers.proofs.figures.copy.Given as goal
 

@@ -1,4 +1,4 @@
-use Rattle.std.proofs.Common.{map, length, drop, arith}
+use Rattle.std.proofs.Common.{map, drop, arith}
 use Rattle.std.proofs.lemmas.List.{length-map, length-drop}
 use Rattle.answers.specs.Figures.{figure}
 use Rattle.answers.proofs.Writing.{decimal_of, room_for, digits_low}

@@ -1,4 +1,4 @@
-use Rattle.std.proofs.Common.{◌≡◌, ◌-◌, ◌≤◌, List, ◌++◌, length, drop, Option}
+use Rattle.std.proofs.Common.{◌-◌, ◌≤◌, List, ◌++◌, length, drop, Option}
 use Rattle.answers.specs.declared.Decline.{Decline}
 use Rattle.symbols.specs.Cut.{Cut}
 use Rattle.symbols.specs.declared.Entry.{Entry}

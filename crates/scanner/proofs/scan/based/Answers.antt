@@ -1,5 +1,4 @@
-use Rattle.std.proofs.Common.{take, drop, Some, sym, ap, ◌∙◌, arith}
-use Rattle.symbols.specs.See.{Sight, found, see_behind, see_name, keyword_of, named as named-as}
+use Rattle.std.proofs.Common.{arith}
 use Rattle.scanner.proofs.Scans.{Measured, part, shown, named_shown, based_long, based_no_space, based_no_digit}
 use Rattle.scanner.proofs.scan.based.Goals as goal
 use Rattle.scanner.proofs.scan.based.Goals.{else-digits-end-via-then-digits-end+else-close-digits, else-digits-end-via-else-digits-end}

@@ -1,7 +1,6 @@
-use Rattle.std.proofs.Common.{drop, Some, None}
+use Rattle.std.proofs.Common.{drop, None}
 use Rattle.symbols.specs.Bytes.{comment_byte}
 use Rattle.symbols.specs.See.{see_enclosed}
-use Rattle.symbols.specs.declared.Symbol.TheVariants.{Text}
 use Rattle.scanner.proofs.Scans.{no_part}
 use Rattle.scanner.proofs.scan.comment.Goals as goal
 

@@ -1,4 +1,4 @@
-use Rattle.std.proofs.Common.{◌≡◌, ◌-◌, length, take, Some, sym, ap, ◌∙◌}
+use Rattle.std.proofs.Common.{◌≡◌, ◌-◌, length, take, ap, ◌∙◌}
 use Rattle.symbols.specs.Spellings.{sign}
 use Rattle.symbols.specs.See.{marks}
 use Rattle.scanner.proofs.Marks.{see_none, see_found, sign_fits, sign_length}

@@ -1,4 +1,4 @@
-use Rattle.std.proofs.Common.{drop, Some, None}
+use Rattle.std.proofs.Common.{drop, Some}
 use Rattle.symbols.specs.Bytes.{string_byte}
 use Rattle.symbols.specs.See.{see_enclosed}
 use Rattle.symbols.specs.declared.Symbol.TheVariants.{Text}

@@ -1,11 +1,10 @@
-use Rattle.std.proofs.Common.{◌≡◌, take, drop, Some, None, sym, ap, ◌∙◌, subst, arith}
+use Rattle.std.proofs.Common.{◌≡◌, take, Some, None, sym, ap, ◌∙◌, subst, arith}
 use Rattle.std.specs.List.{prefix_len}
 use Rattle.symbols.specs.Bytes.{name_byte}
-use Rattle.symbols.specs.See.{see_behind, see_word, base_of}
 use Rattle.symbols.proofs.Lookup.{base_is}
 use Rattle.names.specs.Spelling.{uppers}
 use Rattle.scanner.specs.Seen.{Shows}
-use Rattle.scanner.proofs.Scans.{part, shown, named_shown, word_at}
+use Rattle.scanner.proofs.Scans.{part, named_shown, word_at}
 use Rattle.scanner.proofs.scan.word.Goals as goal
 
 pub returns-in-Some : goal.returns-in-Some

@@ -4,7 +4,7 @@ use Rattle.symbols.specs.See.{value_of}
 use Rattle.scanner.specs.Seen.{Small}
 use Rattle.scanner.proofs.Numbers.{in_quotes, no_quotes, by_rule}
 use Rattle.scanner.proofs.value.integer_value.Goals as goal
-use Rattle.scanner.proofs.value.integer_value.Goals.{in-default-via-then-bytes-lt2, in-default-via-else-bytes-lt2+in-default·}
+use Rattle.scanner.proofs.value.integer_value.Goals.{in_default-via-then-bytes-lt2, in_default-via-else-bytes-lt2+in_default-1}
 
 pub returns-in-39 : goal.returns-in-39
 returns-in-39 c =
@@ -16,12 +16,12 @@ returns-in-39 c =
     let s : Small (value_of w) (Some (get_or w 1 0)) = (sym e, omega (arith, e)) in
     record { twin = s; rule = by_rule w (Some (get_or w 1 0)) s }
 
-pub returns-in-default : goal.returns-in-default
-returns-in-default c =
+pub returns-in_default : goal.returns-in_default
+returns-in_default c =
     let w = c.args.bytes.now in
-    let e = no_quotes w (λ l q. elim c.in-default.branch [
-      | in-default-via-then-bytes-lt2 x ↦ omega (arith, ltb-true, eqb-true, eqb-false)
-      | in-default-via-else-bytes-lt2+in-default· x ↦ omega (arith, ltb-true, eqb-true, eqb-false)
+    let e = no_quotes w (λ l q. elim c.in_default.branch [
+      | in_default-via-then-bytes-lt2 x ↦ omega (arith, ltb-true, eqb-true, eqb-false)
+      | in_default-via-else-bytes-lt2+in_default-1 x ↦ omega (arith, ltb-true, eqb-true, eqb-false)
     ]) in
-    let s : Small (value_of w) c.number-behind.result = subst (λ n. Small n c.number-behind.result) (sym e) c.number-behind.ensures in
-    record { twin = s; rule = by_rule w c.number-behind.result s }
+    let s : Small (value_of w) c.number_behind.result = subst (λ n. Small n c.number_behind.result) (sym e) c.number_behind.ensures in
+    record { twin = s; rule = by_rule w c.number_behind.result s }

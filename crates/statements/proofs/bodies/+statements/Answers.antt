@@ -1,6 +1,6 @@
-use Rattle.std.proofs.Common.{◌≡◌, ◌+◌, ◌-◌, ◌<◌, ◌≤◌, [], ◌∷◌, length, get_or, sym, refl, ◌∙◌, arith}
+use Rattle.std.proofs.Common.{sym, refl, ◌∙◌, arith}
 use Rattle.std.proofs.lemmas.Result.{err_from_is_err_and}
-use Rattle.grammar.specs.Symbols.{STOP, THEN, ELSEIF, ELSE, END, ENDBLOCK, TO, WHILE, DO, REP, SEMI}
+use Rattle.grammar.specs.Symbols.{THEN, ELSEIF, END, ENDBLOCK, TO, WHILE, DO, REP, SEMI}
 use Rattle.grammar.specs.Machine.{all, ors, statements, an_expr, a_body}
 use Rattle.nodes.proofs.Results.{differs, agrees}
 use Rattle.nodes.proofs.Build.{far}

@@ -3,4 +3,4 @@ use Rattle.streams.proofs.Laws.{kept_map, all_arrive}
 
 pub returns : goal.returns
 returns g c =
-    kept_map _ c.record-all.ensures (all_arrive c.args.bytes.now _ c.args.count _ _ _ c.front.ensures)
+    kept_map _ c.record_all.ensures (all_arrive c.args.bytes.now _ c.args.count _ _ _ c.front.ensures)

@@ -5,9 +5,9 @@ use Rattle.streams.proofs.Layers.{page_begins}
 
 pub returns : goal.returns
 returns c =
-    let d = c.record-and-flush.ensures.does tt in
+    let d = c.record_and_flush.ensures.does tt in
     let m = c.new-lent.ensures.means in
     record {
       count = omega (arith, d.count, ap (λ (x : Meaning). x.space) m);
-      begins = page_begins c.record-and-flush.new.r.used c.record-and-flush.result c.record-and-flush.new.r.bytes.now _ c.args.text.now _ (search rules) (ap whole m) d.writes (omega (arith, d.count));
+      begins = page_begins c.record_and_flush.new.r.used c.record_and_flush.result c.record_and_flush.new.r.bytes.now _ c.args.text.now _ (search rules) (ap whole m) d.writes (omega (arith, d.count));
     }

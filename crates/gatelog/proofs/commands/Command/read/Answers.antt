@@ -8,11 +8,11 @@ use Rattle.gatelog.proofs.commands.Command.read.Goals as goal
 abbrev text : List ℕ → List ℕ
 text line = take (length line - 7) (drop 7 line)
 
-pub returns-in-102 : goal.returns-in-102
-returns-in-102 c = text_from_reads _ _ (search rules) (search rules)
+pub returns-in-flush : goal.returns-in-flush
+returns-in-flush c = text_from_reads _ _ (search rules) (search rules)
 
-pub returns-in-111 : goal.returns-in-111
-returns-in-111 c = text_from_reads _ _ (search rules) (search rules)
+pub returns-in-off : goal.returns-in-off
+returns-in-off c = text_from_reads _ _ (search rules) (search rules)
 
 pub returns-in-None : goal.returns-in-None
 returns-in-None c =

@@ -1,4 +1,4 @@
-use Rattle.std.proofs.Common.{◌≡◌, refl, arith, rules}
+use Rattle.std.proofs.Common.{◌≡◌, refl, arith}
 use Rattle.gatelog.proofs.Accepting.{opened}
 use Rattle.gatelog.proofs.loggers.Logger+Blocker+Page.on_page.Goals as goal
 
