@@ -3,7 +3,7 @@
 
 usage: python3 tools/respell.py          at the top of a repository, once, right after port.py
 
-It goes by text. A name is the repository's own where a file of specs/ or proofs/ states its type; answers, invariants and measures, whose
+It goes by text. A name is the repository's own where a file of specs/ or proofs/ states its type, or an import gives it (`as NAME`); answers, invariants and measures, whose
 names Rattle makes, keep theirs, and so do names of the kit's library in the files that import them. Rewritten are .antt files, .rt files
 (comments and strings apart) and must-fail edits. It prints names that would fall together, and then writes nothing.
 """
@@ -51,10 +51,17 @@ def spelled(name):
 
 def own_names(root):
     found = set(SPECIAL)
-    for p in files(root, (".antt",)):
+    for p in files(root, (".antt", ".rt")):
         with open(p, encoding="utf-8") as f:
             for line in f:
-                if line.lstrip().startswith(("--", "use ", "pub use ")):
+                if p.endswith(".rt"):
+                    if line.startswith("ghost use "):
+                        found |= set(re.findall(r" as ([A-Za-z][^\s,}]*)", line))
+                    continue
+                if line.lstrip().startswith(("use ", "pub use ")):
+                    found |= set(re.findall(r" as ([A-Za-z][^\s,}]*)", line))
+                    continue
+                if line.lstrip().startswith("--"):
                     continue
                 m = STATED.match(line)
                 if not m or m.group(3).startswith("goal."):

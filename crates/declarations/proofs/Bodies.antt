@@ -3,7 +3,7 @@ use Rattle.std.proofs.Common.{◌≡◌, ℕ, ◌+◌, ◌*◌, ◌<◌, true, f
 use Rattle.grammar.specs.Symbols.{among, STOP, SEMI}
 use Rattle.grammar.specs.declared.Symbol.{Symbol}
 use Rattle.grammar.specs.Trees.{Opt, none, some, Many, Init, Expr, of_expr, of_inits, Mode, of_mode, Local, local, Locals, locals, of_locals, Body, body, Sequence, of_body, of_sequence}
-use Rattle.grammar.specs.Machine.{Goal, Forest, Move, mapped, orelse, then, never, tok, all, statements, declareds, set as set-sort, inblock, a_mode, a_body, inside, declares, at_all, taken, onto_stack, step, done, is_some, pair, void}
+use Rattle.grammar.specs.Machine.{Goal, Forest, Move, mapped, orelse, then, never, tok, all, statements, declareds, set as set_sort, inblock, a_mode, a_body, inside, declares, at_all, taken, onto_stack, step, done, is_some, pair, void}
 use Rattle.grammar.proofs.Steps.{items_here, step_at, like_at, mapped_on}
 use Rattle.nodes.proofs.Build.{grown, token_refused}
 use Rattle.nodes.proofs.Keep.{keep_mode, keep_many, keep_init, keep_expr, keep_local, keep_locals, keep_sequence, agree_trans}
@@ -20,7 +20,7 @@ use Rattle.declarations.specs.Declaring.{mode_firsts}
 use Rattle.declarations.specs.Bodies.{LocalWay, LocalsWay, of_ended}
 
 abbrev pub InitsMade : ℕ → List Symbol → ℕ → ℕ → List Node → List Node → Parsed → Type 0
-InitsMade d s i used ns ms p = Made 0 (Many (Init (Expr 5))) (IsMany (IsInit IsExpr)) (of_inits of_expr) (Way (all (declareds (set-sort inblock)) ∷ []) d s i) s i used ns ms p
+InitsMade d s i used ns ms p = Made 0 (Many (Init (Expr 5))) (IsMany (IsInit IsExpr)) (of_inits of_expr) (Way (all (declareds (set_sort inblock)) ∷ []) d s i) s i used ns ms p
 
 abbrev pub LocalMade : ℕ → List Symbol → ℕ → ℕ → List Node → List Node → Parsed → Type 0
 LocalMade d s i used ns ms p = Made 0 Local IsLocal of_ended (LocalWay d s i) s i used ns ms p
@@ -34,17 +34,17 @@ LocalsMade d s i used ns ms p = Made 1 Locals IsLocals of_locals (LocalsWay d s 
 
 -- one declaration
 module _ (d : ℕ) (s : List Symbol) (i used : ℕ) (h : i < length s) (q : among mode_firsts (get_or s i STOP) ≡ true) where
-  mode_way : (α : List Goal) → at d (a_body ∷ α) s i ≡ at d (a_mode ∷ all (declareds (set-sort inblock)) ∷ tok SEMI ∷ a_body ∷ α) s i
-  mode_way α = mode_alike d (a_body ∷ α) (a_mode ∷ all (declareds (set-sort inblock)) ∷ tok SEMI ∷ a_body ∷ α) s i h q refl refl refl
+  mode_way : (α : List Goal) → at d (a_body ∷ α) s i ≡ at d (a_mode ∷ all (declareds (set_sort inblock)) ∷ tok SEMI ∷ a_body ∷ α) s i
+  mode_way α = mode_alike d (a_body ∷ α) (a_mode ∷ all (declareds (set_sort inblock)) ∷ tok SEMI ∷ a_body ∷ α) s i h q refl refl refl
 
   pub mode_refused : (f : Fault) → Refused (a_mode ∷ []) d s i f → Refused (a_body ∷ []) d s i f
-  mode_refused f r α = mode_way α ∙ r (all (declareds (set-sort inblock)) ∷ tok SEMI ∷ a_body ∷ α)
+  mode_refused f r α = mode_way α ∙ r (all (declareds (set_sort inblock)) ∷ tok SEMI ∷ a_body ∷ α)
 
   module _ (ns ms : List Node) (e : Parsed) (m : ModeMade d s i used ns ms e) where
-    inits_way : (α : List Goal) → at d (a_body ∷ α) s i ≡ at d (all (declareds (set-sort inblock)) ∷ tok SEMI ∷ a_body ∷ α) s e.next
-    inits_way α = mode_way α ∙ m.met (all (declareds (set-sort inblock)) ∷ tok SEMI ∷ a_body ∷ α)
+    inits_way : (α : List Goal) → at d (a_body ∷ α) s i ≡ at d (all (declareds (set_sort inblock)) ∷ tok SEMI ∷ a_body ∷ α) s e.next
+    inits_way α = mode_way α ∙ m.met (all (declareds (set_sort inblock)) ∷ tok SEMI ∷ a_body ∷ α)
 
-    pub inits_refused : (f : Fault) → Refused (all (declareds (set-sort inblock)) ∷ []) d s e.next f → Refused (a_body ∷ []) d s i f
+    pub inits_refused : (f : Fault) → Refused (all (declareds (set_sort inblock)) ∷ []) d s e.next f → Refused (a_body ∷ []) d s i f
     inits_refused f r α = inits_way α ∙ r (tok SEMI ∷ a_body ∷ α)
 
     module _ (os : List Node) (p : Parsed) (l : InitsMade d s e.next e.used ms os p) where
@@ -71,7 +71,7 @@ body_end α (some f) = refl
 statements_way : (d : ℕ) (s : List Symbol) (j : ℕ) → among mode_firsts (get_or s j STOP) ≡ false → (α : List Goal) → at d (a_body ∷ α) s j ≡ at d (all statements ∷ α) s j
 statements_way d s j n α =
     let k : Symbol = get_or s j STOP in
-    like_at d (a_body ∷ α) (all statements ∷ α) s j (body_end α (done α)) (ap (λ (m : Move Mode). onto_stack (a_body ∷ α) (taken a_body α (orelse (then m (λ α. all (declareds (set-sort inblock)) ∷ tok SEMI ∷ a_body ∷ α) (λ e α g. (declares (local e g.0) g.1.1.0, g.1.1.1)) never) (mapped inside (at_all statements k))) (step α k))) (no_mode k n) ∙ mapped_on a_body (all statements) inside α (at_all statements k) (step α k))
+    like_at d (a_body ∷ α) (all statements ∷ α) s j (body_end α (done α)) (ap (λ (m : Move Mode). onto_stack (a_body ∷ α) (taken a_body α (orelse (then m (λ α. all (declareds (set_sort inblock)) ∷ tok SEMI ∷ a_body ∷ α) (λ e α g. (declares (local e g.0) g.1.1.0, g.1.1.1)) never) (mapped inside (at_all statements k))) (step α k))) (no_mode k n) ∙ mapped_on a_body (all statements) inside α (at_all statements k) (step α k))
 
 module _ (d : ℕ) (s : List Symbol) (i used : ℕ) where
   module _ (es ns : List Node) (p : Parsed) (m : LocalsSome d s i used es ns p) where

@@ -4,7 +4,7 @@ use Rattle.grammar.specs.Symbols.{among, STOP, NAME, INTEGER, TEXT, PLUS, MINUS,
 use Rattle.grammar.specs.declared.Symbol.{Symbol}
 use Rattle.grammar.specs.Trees.{Token, token, key, mark, Opt, none, some, Value, constant, signed, minus_signed, identifier, string, empty_list, list, Values, Entry, once, repeated, of_value, of_values, of_entry}
 use Rattle.grammar.specs.Sentences.{items}
-use Rattle.grammar.specs.Machine.{Goal, Left as Left-stack, Move, shift, skip, refuse, optional, tok, all, each, entries, a_value, maybe_values, times_on, entered, at_all, taken, onto_stack, step, step_to, level, fewer}
+use Rattle.grammar.specs.Machine.{Goal, Left as LeftStack, Move, shift, skip, refuse, optional, tok, all, each, entries, a_value, maybe_values, times_on, entered, at_all, taken, onto_stack, step, step_to, level, fewer}
 use Rattle.grammar.proofs.Right.{clash, among_but as found_in}
 use Rattle.grammar.proofs.Steps.{items_here, step_at, sink_at, refuse_at, refuses, like_at, skip_at, followed_at}
 use Rattle.nodes.proofs.Build.{grown, not_on, fewer_is, more_is}
@@ -34,7 +34,7 @@ signs : (P : Symbol → Type 0) → P PLUS → P MINUS → (c : Symbol) → amon
 signs P a b c h = found_in PLUS (MINUS ∷ []) P c a (found_in MINUS [] P c b (λ x. absurd (clash x refl))) h
 
 -- a list that is there, or its end
-optional_on : (β : List Goal) (n : Move _) (o : Opt (Left-stack β)) → onto_stack β o ≡ none → onto_stack (maybe_values ∷ β) (taken maybe_values β (optional n) o) ≡ onto_stack (all entries ∷ β) (taken (all entries) β n o)
+optional_on : (β : List Goal) (n : Move _) (o : Opt (LeftStack β)) → onto_stack β o ≡ none → onto_stack (maybe_values ∷ β) (taken maybe_values β (optional n) o) ≡ onto_stack (all entries ∷ β) (taken (all entries) β n o)
 optional_on β (shift push build) o e = refl
 optional_on β (skip t) none e = refl
 optional_on β (skip t) (some l) e = refl

@@ -4,7 +4,7 @@ use Rattle.grammar.specs.Symbols.{among, STOP, NAME, INTEGER, INT, BYTE, REF, AR
 use Rattle.grammar.specs.declared.Symbol.{Symbol}
 use Rattle.grammar.specs.Trees.{Token, token, key, Many, of_many, Mode, of_mode, of_amode, Dec, nothing, variables, arrays, structures, of_dec}
 use Rattle.grammar.specs.Sentences.{items}
-use Rattle.grammar.specs.Machine.{Goal, Move, skip, orelse, then, never, tok, all, each, rest, declareds, decs, Sort, unset, set as set-sort, stored, a_mode, an_amode, at_dec, fewer}
+use Rattle.grammar.specs.Machine.{Goal, Move, skip, orelse, then, never, tok, all, each, rest, declareds, decs, Sort, unset, set as set_sort, stored, a_mode, an_amode, at_dec, fewer}
 use Rattle.grammar.proofs.Steps.{items_here, step_at, sink_at, skip_at}
 use Rattle.nodes.proofs.Build.{grown, not_on, fewer_is, more_is, token_refused}
 use Rattle.nodes.proofs.Keep.{keep_mode, keep_amode, keep_many, keep_name, keep_init, keep_value, agree_trans}
@@ -150,16 +150,16 @@ module _ (d : ℕ) (s : List Symbol) (i used : ℕ) where
 
   pub decs_start : (k : Declaring) (ns ms : List Node) (p : Parsed) → DecMade k d s i used ns ms p → DecsSome k d s i used ms ms p
   decs_start Described ns ms p m = starts 1 (omega arith) described_list (all (decs unset)) (decs_begin unset) d s i used ns ms p m
-  decs_start Stored ns ms p m = starts 1 (omega arith) storing_list (all (decs (set-sort stored))) (decs_begin (set-sort stored)) d s i used ns ms p m
+  decs_start Stored ns ms p m = starts 1 (omega arith) storing_list (all (decs (set_sort stored))) (decs_begin (set_sort stored)) d s i used ns ms p m
 
   pub decs_end : (k : Declaring) (es ns : List Node) (p : Parsed) → DecsSome k d s i used es ns p → (os : List Node) → Agree used os es → (get_or s p.next STOP ≡ SEMI → ⊥) → DecsMade k d s i used os ns p
   decs_end Described es ns p m os a n = ends 1 (omega arith) described_list (all (decs unset)) (decs_begin unset) d s i used es ns p m os a n
-  decs_end Stored es ns p m os a n = ends 1 (omega arith) storing_list (all (decs (set-sort stored))) (decs_begin (set-sort stored)) d s i used es ns p m os a n
+  decs_end Stored es ns p m os a n = ends 1 (omega arith) storing_list (all (decs (set_sort stored))) (decs_begin (set_sort stored)) d s i used es ns p m os a n
 
   pub next_dec_refused : (k : Declaring) (es ns : List Node) (p : Parsed) → DecsSome k d s i used es ns p → p.next < length s → get_or s p.next STOP ≡ SEMI → (f : Fault) → DecRefused k d s (p.next + 1) f → Refused (all (decs (sort_of k)) ∷ []) d s i f
   next_dec_refused Described es ns p m b q f z = refused 1 (omega arith) described_list (all (decs unset)) (decs_begin unset) d s i used es ns p m b q f z
-  next_dec_refused Stored es ns p m b q f z = refused 1 (omega arith) storing_list (all (decs (set-sort stored))) (decs_begin (set-sort stored)) d s i used es ns p m b q f z
+  next_dec_refused Stored es ns p m b q f z = refused 1 (omega arith) storing_list (all (decs (set_sort stored))) (decs_begin (set_sort stored)) d s i used es ns p m b q f z
 
   pub decs_go : (k : Declaring) (es ns : List Node) (p : Parsed) → DecsSome k d s i used es ns p → p.next < length s → get_or s p.next STOP ≡ SEMI → (ms : List Node) (t : Parsed) → t.used < length ms → DecMade k d s (p.next + 1) p.used ns ms t → DecsSome k d s i used es (set ms t.used (node.Also p.root t.root)) (record { next = t.next; used = t.used + 1; root = t.used })
   decs_go Described es ns p m b q ms t r o = goes 1 (omega arith) described_list (all (decs unset)) (decs_begin unset) d s i used es ns p m b q ms t r o
-  decs_go Stored es ns p m b q ms t r o = goes 1 (omega arith) storing_list (all (decs (set-sort stored))) (decs_begin (set-sort stored)) d s i used es ns p m b q ms t r o
+  decs_go Stored es ns p m b q ms t r o = goes 1 (omega arith) storing_list (all (decs (set_sort stored))) (decs_begin (set_sort stored)) d s i used es ns p m b q ms t r o

@@ -4,7 +4,7 @@ ghost use Rattle.nodes.specs.Made.{Made, Way, Refused};
 ghost use Rattle.nodes.specs.Nodes.{IsMany, IsMode, IsDec};
 ghost use Rattle.grammar.specs.Symbols.{among, STOP, NAME, ARRAY, COMMA, SEMI};
 ghost use Rattle.grammar.specs.Trees.{Many, of_many, Mode, of_mode, Dec, of_dec};
-ghost use Rattle.grammar.specs.Machine.{all, each, modes as the-modes, declareds, decs as the-decs};
+ghost use Rattle.grammar.specs.Machine.{all, each, modes as the_modes, declareds, decs as the_decs};
 ghost use Rattle.declarations.specs.Declaring.{mode_firsts, sort_of, Listing, IsListing, of_listing};
 
 use crate::{amode, mode, names, stored_inits};
@@ -21,7 +21,7 @@ pub fn modes(
 ) -> Result<Parsed, Fault>
     requires within { i ≤ length s.now }
     requires room { used + 2 * length s.now ≤ length nodes.old + 2 * i }
-    ensures { MatchResult result (λ p. Made 0 (Many Mode) (IsMany IsMode) (of_many of_mode COMMA) (Way (all the-modes ∷ []) depth s.now i) s.now i used nodes.old nodes.new p) (λ f. Refused (all the-modes ∷ []) depth s.now i f) }
+    ensures { MatchResult result (λ p. Made 0 (Many Mode) (IsMany IsMode) (of_many of_mode COMMA) (Way (all the_modes ∷ []) depth s.now i) s.now i used nodes.old nodes.new p) (λ f. Refused (all the_modes ∷ []) depth s.now i f) }
 {
     let mut at = mode(s, i, depth, nodes, used)?;
     while peek(s, at.next) == Symbol::Comma {
@@ -74,7 +74,7 @@ fn arrays(
     requires array { slice_index_or s.now i STOP ≡ ARRAY }
     requires there { i < length s.now }
     requires room { used + 1 + 2 * length s.now ≤ length nodes.old + 2 * i }
-    ensures { MatchResult result (λ p. Made 1 (Dec (Listing how)) (IsDec (IsListing how)) (of_dec (of_listing how)) (Way (each (the-decs (sort_of how)) ∷ []) depth s.now i) s.now i used nodes.old nodes.new p) (λ f. Refused (each (the-decs (sort_of how)) ∷ []) depth s.now i f) }
+    ensures { MatchResult result (λ p. Made 1 (Dec (Listing how)) (IsDec (IsListing how)) (of_dec (of_listing how)) (Way (each (the_decs (sort_of how)) ∷ []) depth s.now i) s.now i used nodes.old nodes.new p) (λ f. Refused (each (the_decs (sort_of how)) ∷ []) depth s.now i f) }
 {
     if peek(s, i + 1) != Symbol::Left {
         return Err(Fault::Syntax(i + 1));
@@ -110,7 +110,7 @@ fn structures(
     requires name { slice_index_or s.now i STOP ≡ NAME }
     requires there { i < length s.now }
     requires room { used + 1 + 2 * length s.now ≤ length nodes.old + 2 * i }
-    ensures { MatchResult result (λ p. Made 1 (Dec (Listing how)) (IsDec (IsListing how)) (of_dec (of_listing how)) (Way (each (the-decs (sort_of how)) ∷ []) depth s.now i) s.now i used nodes.old nodes.new p) (λ f. Refused (each (the-decs (sort_of how)) ∷ []) depth s.now i f) }
+    ensures { MatchResult result (λ p. Made 1 (Dec (Listing how)) (IsDec (IsListing how)) (of_dec (of_listing how)) (Way (each (the_decs (sort_of how)) ∷ []) depth s.now i) s.now i used nodes.old nodes.new p) (λ f. Refused (each (the_decs (sort_of how)) ∷ []) depth s.now i f) }
 {
     let n = listing(s, i + 1, depth, nodes, used, how)?;
     nodes[n.used] = Node::Structures(i, n.root);
@@ -133,7 +133,7 @@ fn variables(
     requires begins { among mode_firsts (slice_index_or s.now i STOP) ≡ true }
     requires there { i < length s.now }
     requires room { used + 1 + 2 * length s.now ≤ length nodes.old + 2 * i }
-    ensures { MatchResult result (λ p. Made 1 (Dec (Listing how)) (IsDec (IsListing how)) (of_dec (of_listing how)) (Way (each (the-decs (sort_of how)) ∷ []) depth s.now i) s.now i used nodes.old nodes.new p) (λ f. Refused (each (the-decs (sort_of how)) ∷ []) depth s.now i f) }
+    ensures { MatchResult result (λ p. Made 1 (Dec (Listing how)) (IsDec (IsListing how)) (of_dec (of_listing how)) (Way (each (the_decs (sort_of how)) ∷ []) depth s.now i) s.now i used nodes.old nodes.new p) (λ f. Refused (each (the_decs (sort_of how)) ∷ []) depth s.now i f) }
 {
     let m = mode(s, i, depth, nodes, used)?;
     let n = listing(s, m.next, depth, nodes, m.used, how)?;
@@ -156,7 +156,7 @@ fn dec(
 ) -> Result<Parsed, Fault>
     requires within { i ≤ length s.now }
     requires room { used + 1 + 2 * length s.now ≤ length nodes.old + 2 * i }
-    ensures { MatchResult result (λ p. Made 1 (Dec (Listing how)) (IsDec (IsListing how)) (of_dec (of_listing how)) (Way (each (the-decs (sort_of how)) ∷ []) depth s.now i) s.now i used nodes.old nodes.new p) (λ f. Refused (each (the-decs (sort_of how)) ∷ []) depth s.now i f) }
+    ensures { MatchResult result (λ p. Made 1 (Dec (Listing how)) (IsDec (IsListing how)) (of_dec (of_listing how)) (Way (each (the_decs (sort_of how)) ∷ []) depth s.now i) s.now i used nodes.old nodes.new p) (λ f. Refused (each (the_decs (sort_of how)) ∷ []) depth s.now i f) }
 {
     match peek(s, i) {
         Symbol::Array => arrays(s, i, depth, nodes, used, how),
@@ -184,7 +184,7 @@ pub fn decs(
 ) -> Result<Parsed, Fault>
     requires within { i ≤ length s.now }
     requires room { used + 1 + 2 * length s.now ≤ length nodes.old + 2 * i }
-    ensures { MatchResult result (λ p. Made 1 (Many (Dec (Listing how))) (IsMany (IsDec (IsListing how))) (of_many (of_dec (of_listing how)) SEMI) (Way (all (the-decs (sort_of how)) ∷ []) depth s.now i) s.now i used nodes.old nodes.new p) (λ f. Refused (all (the-decs (sort_of how)) ∷ []) depth s.now i f) }
+    ensures { MatchResult result (λ p. Made 1 (Many (Dec (Listing how))) (IsMany (IsDec (IsListing how))) (of_many (of_dec (of_listing how)) SEMI) (Way (all (the_decs (sort_of how)) ∷ []) depth s.now i) s.now i used nodes.old nodes.new p) (λ f. Refused (all (the_decs (sort_of how)) ∷ []) depth s.now i f) }
 {
     let mut at = dec(s, i, depth, nodes, used, how)?;
     while peek(s, at.next) == Symbol::Semi {

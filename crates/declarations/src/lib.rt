@@ -9,7 +9,7 @@ ghost use Rattle.nodes.specs.Made.{Made, Way, Refused, FieldsWay, Shares, of_sha
 ghost use Rattle.nodes.specs.Nodes.{IsExpr, IsMode, IsAmode, IsFields, IsValue, IsValues, IsEntry, IsMany, IsName, IsInit};
 ghost use Rattle.grammar.specs.Symbols.{Says, among, STOP, LEFT, COMMA, REF, ARRAY, PLUS, MINUS};
 ghost use Rattle.grammar.specs.Trees.{Expr, of_expr, Mode, Amode, of_mode, of_amode, Fields, Value, Values, Entry, of_fields, of_value, of_values, of_entry, Many, Init, of_init, of_inits, of_name, of_names};
-ghost use Rattle.grammar.specs.Machine.{each, all, a_mode, an_amode, the_fields, a_value, entries, declareds, unset, set as set-sort, stored, inblock};
+ghost use Rattle.grammar.specs.Machine.{each, all, a_mode, an_amode, the_fields, a_value, entries, declareds, unset, set as set_sort, stored, inblock};
 ghost use Rattle.declarations.specs.Declaring.{mode_firsts};
 
 use expressions::expr;
@@ -439,7 +439,7 @@ fn stored_init(
 ) -> Result<Parsed, Fault>
     requires within { i ≤ length s.now }
     requires room { used + 2 * length s.now ≤ length nodes.old + 2 * i }
-    ensures { MatchResult result (λ p. Made 0 (Init Value) (IsInit IsValue) (of_init of_value) (Way (each (declareds (set-sort stored)) ∷ []) depth s.now i) s.now i used nodes.old nodes.new p) (λ f. Refused (each (declareds (set-sort stored)) ∷ []) depth s.now i f) }
+    ensures { MatchResult result (λ p. Made 0 (Init Value) (IsInit IsValue) (of_init of_value) (Way (each (declareds (set_sort stored)) ∷ []) depth s.now i) s.now i used nodes.old nodes.new p) (λ f. Refused (each (declareds (set_sort stored)) ∷ []) depth s.now i f) }
 {
     if peek(s, i) != Symbol::Name {
         return Err(Fault::Syntax(i));
@@ -472,7 +472,7 @@ fn local_init(
 ) -> Result<Parsed, Fault>
     requires within { i ≤ length s.now }
     requires room { used + 2 * length s.now ≤ length nodes.old + 2 * i }
-    ensures { MatchResult result (λ p. Made 0 (Init (Expr 5)) (IsInit IsExpr) (of_init of_expr) (Way (each (declareds (set-sort inblock)) ∷ []) depth s.now i) s.now i used nodes.old nodes.new p) (λ f. Refused (each (declareds (set-sort inblock)) ∷ []) depth s.now i f) }
+    ensures { MatchResult result (λ p. Made 0 (Init (Expr 5)) (IsInit IsExpr) (of_init of_expr) (Way (each (declareds (set_sort inblock)) ∷ []) depth s.now i) s.now i used nodes.old nodes.new p) (λ f. Refused (each (declareds (set_sort inblock)) ∷ []) depth s.now i f) }
 {
     if peek(s, i) != Symbol::Name {
         return Err(Fault::Syntax(i));
@@ -551,7 +551,7 @@ pub fn stored_inits(
 ) -> Result<Parsed, Fault>
     requires within { i ≤ length s.now }
     requires room { used + 2 * length s.now ≤ length nodes.old + 2 * i }
-    ensures { MatchResult result (λ p. Made 0 (Many (Init Value)) (IsMany (IsInit IsValue)) (of_inits of_value) (Way (all (declareds (set-sort stored)) ∷ []) depth s.now i) s.now i used nodes.old nodes.new p) (λ f. Refused (all (declareds (set-sort stored)) ∷ []) depth s.now i f) }
+    ensures { MatchResult result (λ p. Made 0 (Many (Init Value)) (IsMany (IsInit IsValue)) (of_inits of_value) (Way (all (declareds (set_sort stored)) ∷ []) depth s.now i) s.now i used nodes.old nodes.new p) (λ f. Refused (all (declareds (set_sort stored)) ∷ []) depth s.now i f) }
 {
     let mut at = stored_init(s, i, depth, nodes, used)?;
     while peek(s, at.next) == Symbol::Comma {
@@ -575,7 +575,7 @@ pub fn local_inits(
 ) -> Result<Parsed, Fault>
     requires within { i ≤ length s.now }
     requires room { used + 2 * length s.now ≤ length nodes.old + 2 * i }
-    ensures { MatchResult result (λ p. Made 0 (Many (Init (Expr 5))) (IsMany (IsInit IsExpr)) (of_inits of_expr) (Way (all (declareds (set-sort inblock)) ∷ []) depth s.now i) s.now i used nodes.old nodes.new p) (λ f. Refused (all (declareds (set-sort inblock)) ∷ []) depth s.now i f) }
+    ensures { MatchResult result (λ p. Made 0 (Many (Init (Expr 5))) (IsMany (IsInit IsExpr)) (of_inits of_expr) (Way (all (declareds (set_sort inblock)) ∷ []) depth s.now i) s.now i used nodes.old nodes.new p) (λ f. Refused (all (declareds (set_sort inblock)) ∷ []) depth s.now i f) }
 {
     let mut at = local_init(s, i, depth, nodes, used)?;
     while peek(s, at.next) == Symbol::Comma {

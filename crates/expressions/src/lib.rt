@@ -2,7 +2,7 @@
 #![tactic(auto)]
 
 ghost use Rattle.std.specs.Prelude.{◌≡◌, ◌+◌, ◌-◌, ◌*◌, ◌<◌, ◌≤◌, [], ◌∷◌, length, MatchResult, slice_index_or};
-ghost use Rattle.nodes.specs.Made.{Made, Way, Refused, LevelWay, LevelRefused, FormWay, FormRefused, Opening, PartsWay, VariableWay, VariableRefused, Counted, ArgsWay, rank as rank-of, monadics, comparators};
+ghost use Rattle.nodes.specs.Made.{Made, Way, Refused, LevelWay, LevelRefused, FormWay, FormRefused, Opening, PartsWay, VariableWay, VariableRefused, Counted, ArgsWay, rank as rank_of, monadics, comparators};
 ghost use Rattle.nodes.specs.Nodes.{IsExpr, IsExprs, IsPrimary, IsTerm, IsVariable, IsComparison, IsSubcondition, IsCondition};
 ghost use Rattle.grammar.specs.Symbols.{among, STOP, LEFT, RIGHT, NAME};
 ghost use Rattle.grammar.specs.Trees.{Expr, Exprs, Primary, Term, Variable, token, key, of_expr, of_exprs, of_primary, of_term, of_variable, Comparison, Subcondition, Condition, of_comparison, of_subcondition, of_condition};
@@ -13,7 +13,7 @@ use nodes::{Fault, Node, Parsed, peek};
 
 // How loosely an operator binds; 5 for any other terminal.
 fn rank(c: Symbol) -> usize
-    ensures { result ≡ rank-of c }
+    ensures { result ≡ rank_of c }
 {
     match c {
         Symbol::Star | Symbol::Divide | Symbol::Mod => 0,

@@ -3,7 +3,7 @@ use Rattle.std.proofs.Common.{◌≡◌, ℕ, zero, suc, ◌+◌, ◌-◌, ◌<�
 use Rattle.grammar.specs.Symbols.{among, STOP, COMMA, NAME, DATA, PROC, EXT, MODE, ENT, LEFT, RIGHT}
 use Rattle.grammar.specs.declared.Symbol.{Symbol}
 use Rattle.grammar.specs.Trees.{Token, token, key, Many, of_many, Opt, of_opt, Fields, of_fields, Mode, of_mode, of_names, Brick, Moditem, blank, external_procs, external_store, record_mode, own, entry, of_moditem, Module, of_module}
-use Rattle.grammar.specs.Sentences.{items, fine, bad, Made as Made-of}
+use Rattle.grammar.specs.Sentences.{items, fine, bad, Made as MadeOf}
 use Rattle.grammar.specs.Machine.{Goal, Move, refuse, mapped, orelse, tok, each, all, moditems, declareds, unset, an_external, a_brick, the_fields, maybe_mode, maybe_modes, a_module, at_brick, fewer, run, step_to}
 use Rattle.grammar.proofs.Right.{clash, among_but as found_in}
 use Rattle.grammar.proofs.Steps.{items_here, step_at, sink_at, refuse_at, refuses, skip_at}
@@ -219,7 +219,7 @@ module _ (s : List Symbol) (ns ms : List Node) (p : Parsed) (m : ModuleMade s ns
   pub too_long : p.next < length s → run 32 a_module 0 s ≡ bad p.next
   too_long h = m.met [] ∙ past s p.next h
 
-  pub whole : length s ≤ p.next → (t : Module) × IsModule t ms p.root × Made-of t s × (run 32 a_module 0 s ≡ fine)
+  pub whole : length s ≤ p.next → (t : Module) × IsModule t ms p.root × MadeOf t s × (run 32 a_module 0 s ≡ fine)
   whole h =
       let e : drop p.next s ≡ [] = drop_all s p.next h in
       (m.tree, m.is, sym (m.text ∙ ap (λ (w : List Symbol). of_module m.tree (items p.next w)) e), m.met [] ∙ ap (run 32 [] p.next) e)

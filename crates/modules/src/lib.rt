@@ -4,7 +4,7 @@
 ghost use Rattle.std.specs.Prelude.{◌≡◌, ◌+◌, ◌*◌, ◌<◌, ◌≤◌, true, [], ◌∷◌, length, MatchResult, slice_index_or};
 ghost use Rattle.grammar.specs.Symbols.{among, STOP, COMMA, DATA, PROC, EXT, MODE, ENT};
 ghost use Rattle.grammar.specs.Trees.{Opt, of_opt, Many, of_many, Dec, Fields, of_fields, Mode, of_mode, Brick, of_brick, Moditem, of_moditem, Module, of_module};
-ghost use Rattle.grammar.specs.Sentences.{fine, Made as Made-of};
+ghost use Rattle.grammar.specs.Sentences.{fine, Made as MadeOf};
 ghost use Rattle.grammar.specs.Machine.{each, all, moditems, maybe_fields, maybe_mode, maybe_modes, a_brick, a_module, run};
 ghost use Rattle.nodes.specs.Made.{Made, Way, Refused, answer};
 ghost use Rattle.nodes.specs.Nodes.{IsOpt, IsMany, IsDec, IsFields, IsMode, IsBrick, IsModitem, IsModule};
@@ -436,7 +436,7 @@ fn module_items(
 /// The module that the terminals are: the node that stands for it, or the number of the first terminal that can follow in no module or nests too deep.
 pub fn read_module(s: &[Symbol], nodes: &mut [Node]) -> Result<usize, Fault>
     requires room { 1 + 2 * length s.now ≤ length nodes.old }
-    ensures { MatchResult result (λ k. (m : Module) × IsModule m nodes.new k × Made-of m s.now × (run 32 a_module 0 s.now ≡ fine)) (λ f. run 32 a_module 0 s.now ≡ answer f) }
+    ensures { MatchResult result (λ k. (m : Module) × IsModule m nodes.new k × MadeOf m s.now × (run 32 a_module 0 s.now ≡ fine)) (λ f. run 32 a_module 0 s.now ≡ answer f) }
 {
     let m = module_items(s, 0, MAX_DEPTH, nodes, 0)?;
     if m.next < s.len() {

@@ -4,7 +4,7 @@ use Rattle.grammar.specs.Symbols.{STOP}
 use Rattle.grammar.specs.declared.Symbol.{Symbol}
 use Rattle.grammar.specs.Trees.{Token, key, mark, Opt, none, some}
 use Rattle.grammar.specs.Sentences.{items}
-use Rattle.grammar.specs.Machine.{Goal, Forest, Repetition, exprs, ors, ands, statements, modes, entries, moditems, declareds, decs, Sort, unset, set as set-sort, stored, inblock, Single, Whole, begun, added, adds, all, each, rest, separator, level, step_to, is_some, pair, done, void_each, void}
+use Rattle.grammar.specs.Machine.{Goal, Forest, Repetition, exprs, ors, ands, statements, modes, entries, moditems, declareds, decs, Sort, unset, set as set_sort, stored, inblock, Single, Whole, begun, added, adds, all, each, rest, separator, level, step_to, is_some, pair, done, void_each, void}
 use Rattle.grammar.proofs.Spell.{of_single, of_whole, begun_of, added_of}
 use Rattle.grammar.proofs.Steps.{items_here, step_at, skip_at, followed_at}
 use Rattle.nodes.proofs.Build.{grown, not_on}
@@ -28,10 +28,10 @@ rep statements_list = statements
 rep modes_list = modes
 rep entries_list = entries
 rep names_list = declareds unset
-rep stored_list = declareds (set-sort stored)
-rep inblock_list = declareds (set-sort inblock)
+rep stored_list = declareds (set_sort stored)
+rep inblock_list = declareds (set_sort inblock)
 rep described_list = decs unset
-rep storing_list = decs (set-sort stored)
+rep storing_list = decs (set_sort stored)
 rep moditems_list = moditems
 
 abbrev pub IsSingle : (r : Listed) → Reading (Single (rep r))

@@ -4,7 +4,7 @@ use Rattle.grammar.specs.Symbols.{same, STOP, NAME, INT, BYTE, REF, COMMA}
 use Rattle.grammar.specs.declared.Symbol.{Symbol}
 use Rattle.grammar.specs.Trees.{Token, token, key, Opt, Mode, Fields, field, also, next, of_mode, of_fields}
 use Rattle.grammar.specs.Sentences.{items}
-use Rattle.grammar.specs.Machine.{Goal, Forest, Tree, Left as Left-stack, Move, shift, skip, refuse, on, then, never, tok, a_mode, the_fields, fields_on, a_further, fielded, other, at_mode, taken, onto_stack, step}
+use Rattle.grammar.specs.Machine.{Goal, Forest, Tree, Left as LeftStack, Move, shift, skip, refuse, on, then, never, tok, a_mode, the_fields, fields_on, a_further, fielded, other, at_mode, taken, onto_stack, step}
 use Rattle.grammar.proofs.Steps.{items_here, step_at, refuse_at, refuses, like_at, skip_at}
 use Rattle.parser.proofs.Build.{grown, not_on}
 use Rattle.parser.proofs.Modes.{ModeMade}
@@ -34,7 +34,7 @@ sure_mode : (c : Symbol) → Sure (at_mode c)
 sure_mode c = sure_on c INT _ _ _ (sure_on c BYTE _ _ _ (sure_on c REF _ _ refuse tt))
 
 -- a goal that begins with a mode
-pub mode_first : (x : Goal) (after : List Goal → List Goal) (join : Mode → (α : List Goal) → Forest (after α) → Tree x × Forest α) (α : List Goal) (m : Move Mode) (o : Opt (Left-stack α)) (p : Opt (Left-stack (after α))) → Sure m → onto_stack (x ∷ α) (taken x α (then m after join never) o) ≡ onto_stack (a_mode ∷ after α) (taken a_mode (after α) m p)
+pub mode_first : (x : Goal) (after : List Goal → List Goal) (join : Mode → (α : List Goal) → Forest (after α) → Tree x × Forest α) (α : List Goal) (m : Move Mode) (o : Opt (LeftStack α)) (p : Opt (LeftStack (after α))) → Sure m → onto_stack (x ∷ α) (taken x α (then m after join never) o) ≡ onto_stack (a_mode ∷ after α) (taken a_mode (after α) m p)
 mode_first x after join α (shift push build) o p h = refl
 mode_first x after join α (skip t) o p h = absurd h
 mode_first x after join α refuse o p h = refl

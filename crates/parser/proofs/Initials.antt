@@ -4,7 +4,7 @@ use Rattle.grammar.specs.Symbols.{STOP, NAME, INTEGER, TEXT, PLUS, MINUS, LEFT, 
 use Rattle.grammar.specs.declared.Symbol.{Symbol}
 use Rattle.grammar.specs.Trees.{Token, token, key, Opt, none, some, Value, constant, signed, minus_signed, identifier, string, empty_list, list, Values, Entry, once, repeated, of_value, of_values, of_entry}
 use Rattle.grammar.specs.Sentences.{items}
-use Rattle.grammar.specs.Machine.{Goal, Left as Left-stack, Move, shift, skip, refuse, optional, tok, all, each, entries, a_value, maybe_values, times_on, entered, at_all, taken, onto_stack, step, fewer}
+use Rattle.grammar.specs.Machine.{Goal, Left as LeftStack, Move, shift, skip, refuse, optional, tok, all, each, entries, a_value, maybe_values, times_on, entered, at_all, taken, onto_stack, step, fewer}
 use Rattle.grammar.proofs.Steps.{items_here, step_at, sink_at, refuse_at, refuses, like_at, skip_at, followed_at}
 use Rattle.parser.proofs.Build.{grown, not_on, fewer_is, more_is}
 use Rattle.parser.proofs.Keep.{keep_value, keep_values}
@@ -29,7 +29,7 @@ pub value_none : (d : ℕ) (s : List Symbol) (i : ℕ) → (get_or s i STOP ≡ 
 value_none d s i a b c e f g α = let k : Symbol = get_or s i STOP in refuse_at d (a_value ∷ α) s i refl (refuses a_value α k (not_on k INTEGER _ _ _ a ∙ not_on k PLUS _ _ _ b ∙ not_on k MINUS _ _ _ c ∙ not_on k NAME _ _ _ e ∙ not_on k TEXT _ _ _ f ∙ not_on k LEFT _ _ refuse g))
 
 -- a list that is there, or its end
-optional_on : (β : List Goal) (n : Move _) (o : Opt (Left-stack β)) → onto_stack β o ≡ none → onto_stack (maybe_values ∷ β) (taken maybe_values β (optional n) o) ≡ onto_stack (all entries ∷ β) (taken (all entries) β n o)
+optional_on : (β : List Goal) (n : Move _) (o : Opt (LeftStack β)) → onto_stack β o ≡ none → onto_stack (maybe_values ∷ β) (taken maybe_values β (optional n) o) ≡ onto_stack (all entries ∷ β) (taken (all entries) β n o)
 optional_on β (shift push build) o e = refl
 optional_on β (skip t) none e = refl
 optional_on β (skip t) (some l) e = refl

@@ -4,7 +4,7 @@ use Rattle.grammar.specs.Symbols.{code, same, same_true, STOP, NAME, BECOMES}
 use Rattle.grammar.specs.declared.Symbol.{Symbol}
 use Rattle.grammar.specs.Trees.{Token, token, key, Opt, none, some, Many, one, more, Init, plain, given, of_init, of_many, of_name}
 use Rattle.grammar.specs.Sentences.{items}
-use Rattle.grammar.specs.Machine.{Goal, Forest, Move, refuse, each, declareds, unset, set as set-sort, Setting, stored, inblock, Initial, given_on, chain, linked, uses, value, a_value, an_expr, a_term, links_on, named, inner, at_value, at_expr, taken, onto_stack, step, done, is_some, pair, void}
+use Rattle.grammar.specs.Machine.{Goal, Forest, Move, refuse, each, declareds, unset, set as set_sort, Setting, stored, inblock, Initial, given_on, chain, linked, uses, value, a_value, an_expr, a_term, links_on, named, inner, at_value, at_expr, taken, onto_stack, step, done, is_some, pair, void}
 use Rattle.grammar.proofs.Spell.{of_initial}
 use Rattle.grammar.proofs.Expressions.{on_not}
 use Rattle.grammar.proofs.Steps.{items_here, step_at, refuse_at, refuses, like_at, skip_at, followed_at, expr_at, mapped_on}
@@ -48,7 +48,7 @@ pub first_name : (s : List Symbol) (i used : ℕ) (ns : List Node) → Shares s 
 first_name s i used ns q r =
     let h : i < length s = omega (arith, q.2) in
     grown 0 (IsMany IsName) of_shared (NamesWay s i) s i used ns ns used (i + 2) (node.Name i) r (one i) (omega (arith, q.2)) (omega arith) (omega arith) (λ j l. refl) (λ g a. a) (two_items s i q)
-    (λ d v α. step_at d (each (declareds (set-sort v)) ∷ α) (given_on v ∷ α) s i d NAME h q.0 refl refl ∙ becomes_way d v α s i (given_on v ∷ α) q refl)
+    (λ d v α. step_at d (each (declareds (set_sort v)) ∷ α) (given_on v ∷ α) s i d NAME h q.0 refl refl ∙ becomes_way d v α s i (given_on v ∷ α) q refl)
 
 pub more_names : (s : List Symbol) (i used : ℕ) (es ns : List Node) (p : Parsed) → NamesMade s i used es ns p → Shares s p.next → p.used + 1 < length ns → NamesMade s i used es (set (set ns p.used (node.Name p.next)) (p.used + 1) (node.Also p.root p.used)) (record { next = p.next + 2; used = p.used + 2; root = p.used + 1 })
 more_names s i used es ns p m q r =
@@ -99,25 +99,25 @@ chain_way v d α s j n = by v (same (get_or s j STOP) NAME) refl
     by inblock false e = let k : Symbol = get_or s j STOP in like_at d (chain inblock ∷ α) (an_expr ∷ α) s j refl (ap (λ (m : Move _). onto_stack (chain inblock ∷ α) (taken (chain inblock) α m (step α k))) (on_not k NAME _ _ _ e) ∙ mapped_on (chain inblock) an_expr value α (at_expr k) (step α k))
 
 abbrev pub InitMade : (v : Setting) → ℕ → List Symbol → ℕ → ℕ → List Node → List Node → Parsed → Type 0
-InitMade v d s i used ns ms p = Made 0 (Init (Initial v)) (IsInit (IsInitial v)) (of_init (of_initial v)) (Way (each (declareds (set-sort v)) ∷ []) d s i) s i used ns ms p
+InitMade v d s i used ns ms p = Made 0 (Init (Initial v)) (IsInit (IsInitial v)) (of_init (of_initial v)) (Way (each (declareds (set_sort v)) ∷ []) d s i) s i used ns ms p
 
 module _ (v : Setting) (d : ℕ) (s : List Symbol) (i used : ℕ) where
-  pub no_name : (get_or s i STOP ≡ NAME → ⊥) → Refused (each (declareds (set-sort v)) ∷ []) d s i (Syntax i)
-  no_name n α = refuse_at d (each (declareds (set-sort v)) ∷ α) s i refl (refuses (each (declareds (set-sort v))) α (get_or s i STOP) (not_on (get_or s i STOP) NAME _ _ refuse n))
+  pub no_name : (get_or s i STOP ≡ NAME → ⊥) → Refused (each (declareds (set_sort v)) ∷ []) d s i (Syntax i)
+  no_name n α = refuse_at d (each (declareds (set_sort v)) ∷ α) s i refl (refuses (each (declareds (set_sort v))) α (get_or s i STOP) (not_on (get_or s i STOP) NAME _ _ refuse n))
 
   pub made_plain : (ns : List Node) → i < length s → get_or s i STOP ≡ NAME → (get_or s (i + 1) STOP ≡ BECOMES → ⊥) → used < length ns → InitMade v d s i used ns (set ns used (node.Plain i)) (record { next = i + 1; used = used + 1; root = used })
-  made_plain ns h q n r = grown 0 (IsInit (IsInitial v)) (of_init (of_initial v)) (Way (each (declareds (set-sort v)) ∷ []) d s i) s i used ns ns used (i + 1) (node.Plain i) r (plain i) (omega arith) (omega arith) (omega arith) (λ j l. refl) (λ g a. a) (items_here s i NAME h q) (λ α. step_at d (each (declareds (set-sort v)) ∷ α) (given_on v ∷ α) s i d NAME h q refl refl ∙ skip_at d (given_on v) α s (i + 1) none none refl (not_on (get_or s (i + 1) STOP) BECOMES _ _ _ n))
+  made_plain ns h q n r = grown 0 (IsInit (IsInitial v)) (of_init (of_initial v)) (Way (each (declareds (set_sort v)) ∷ []) d s i) s i used ns ns used (i + 1) (node.Plain i) r (plain i) (omega arith) (omega arith) (omega arith) (λ j l. refl) (λ g a. a) (items_here s i NAME h q) (λ α. step_at d (each (declareds (set_sort v)) ∷ α) (given_on v ∷ α) s i d NAME h q refl refl ∙ skip_at d (given_on v) α s (i + 1) none none refl (not_on (get_or s (i + 1) STOP) BECOMES _ _ _ n))
 
   module _ (ns ms : List Node) (p : Parsed) (m : NamesMade s i used ns ms p) (n : Shares s p.next → ⊥) (strict : p.used + 2 * i < 2 * p.next + used) where
-    init_way : (α : List Goal) → at d (each (declareds (set-sort v)) ∷ α) s i ≡ at d (goal_of v ∷ α) s p.next
+    init_way : (α : List Goal) → at d (each (declareds (set_sort v)) ∷ α) s i ≡ at d (goal_of v ∷ α) s p.next
     init_way α = m.met d v α ∙ chain_way v d α s p.next n
 
-    pub init_refused : (f : Fault) → Refused (goal_of v ∷ []) d s p.next f → Refused (each (declareds (set-sort v)) ∷ []) d s i f
+    pub init_refused : (f : Fault) → Refused (goal_of v ∷ []) d s p.next f → Refused (each (declareds (set_sort v)) ∷ []) d s i f
     init_refused f r α = init_way α ∙ r α
 
     pub made_given : (os : List Node) (e : Parsed) → e.used < length os → Made 0 (Initial v) (IsInitial v) (of_initial v) (Way (goal_of v ∷ []) d s p.next) s p.next p.used ms os e → InitMade v d s i used ns (set os e.used (node.Given p.root e.root)) (record { next = e.next; used = e.used + 1; root = e.used })
     made_given os e r b =
-        grown 0 (IsInit (IsInitial v)) (of_init (of_initial v)) (Way (each (declareds (set-sort v)) ∷ []) d s i) s i used ns os e.used e.next (node.Given p.root e.root) r (given m.tree b.tree) b.within (omega (arith, m.more, b.more)) (omega (arith, strict, b.few))
+        grown 0 (IsInit (IsInitial v)) (of_init (of_initial v)) (Way (each (declareds (set_sort v)) ∷ []) d s i) s i used ns os e.used e.next (node.Given p.root e.root) r (given m.tree b.tree) b.within (omega (arith, m.more, b.more)) (omega (arith, strict, b.few))
         (agree_trans used p.used ns ms os m.more m.kept b.kept)
         (λ g a. (p.root, e.root, omega (arith, m.below, b.more), b.below, a, keep_many e.used os _ g IsName (keep_name e.used os _ g) m.tree p.root (omega (arith, m.below, b.more)) (keep_many p.used ms os b.kept IsName (keep_name p.used ms os b.kept) m.tree p.root m.below m.is), keep_initial v e.used os _ g b.tree e.root b.below b.is))
         (m.text ∙ ap (of_shared m.tree) b.text)

@@ -2,11 +2,11 @@
 
 // Reading the items of a text into nodes, by recursive descent.
 ghost use Rattle.std.specs.Prelude.{◌≡◌, ℕ, ◌+◌, ◌-◌, ◌*◌, ◌^◌, ◌<◌, ◌≤◌, [], ◌∷◌, length, MatchResult, ◌≢◌, slice_index_or};
-ghost use Rattle.parser.specs.Made.{Made, Way, Refused, LevelWay, LevelRefused, FormWay, FormRefused, PartsWay, ArgsWay, rank as rank-of, monadics, comparators, FieldsWay, Shares, of_shared, NamesWay};
+ghost use Rattle.parser.specs.Made.{Made, Way, Refused, LevelWay, LevelRefused, FormWay, FormRefused, PartsWay, ArgsWay, rank as rank_of, monadics, comparators, FieldsWay, Shares, of_shared, NamesWay};
 ghost use Rattle.parser.specs.Nodes.{IsExpr, IsExprs, IsPrimary, IsTerm, IsVariable, IsComparison, IsSubcondition, IsCondition, IsMode, IsAmode, IsFields, IsValue, IsValues, IsEntry, IsMany, IsName, IsInit};
 ghost use Rattle.grammar.specs.Symbols.{among, Says, STOP, LEFT, RIGHT, NAME, COMMA, REF, ARRAY, PLUS, MINUS};
 ghost use Rattle.grammar.specs.Trees.{Expr, Exprs, Primary, Term, Variable, token, key, of_expr, of_exprs, of_primary, of_term, of_variable, Comparison, Subcondition, Condition, Mode, Amode, of_comparison, of_subcondition, of_condition, of_mode, of_amode, Fields, Value, Values, Entry, of_fields, of_value, of_values, of_entry, Many, Init, of_init, of_inits, of_name, of_names};
-ghost use Rattle.grammar.specs.Machine.{an_expr, a_primary, a_term, tok, each, all, ands, ors, a_mode, an_amode, the_fields, a_value, entries, declareds, unset, set as set-sort, stored, inblock};
+ghost use Rattle.grammar.specs.Machine.{an_expr, a_primary, a_term, tok, each, all, ands, ors, a_mode, an_amode, the_fields, a_value, entries, declareds, unset, set as set_sort, stored, inblock};
 
 use grammar::Symbol;
 
@@ -92,7 +92,7 @@ fn peek(s: &[Symbol], i: usize) -> Symbol
 
 // How loosely an operator binds; 5 for any other symbol.
 fn rank(c: Symbol) -> usize
-    ensures { result ≡ rank-of c }
+    ensures { result ≡ rank_of c }
 {
     match c {
         Symbol::Star | Symbol::Divide | Symbol::Mod => 0,
@@ -931,7 +931,7 @@ fn stored_init(
 ) -> Result<Parsed, Fault>
     requires within { i ≤ length s.now }
     requires room { used + 2 * length s.now ≤ length nodes.old + 2 * i }
-    ensures { MatchResult result (λ p. Made 0 (Init Value) (IsInit IsValue) (of_init of_value) (Way (each (declareds (set-sort stored)) ∷ []) depth s.now i) s.now i used nodes.old nodes.new p) (λ f. Refused (each (declareds (set-sort stored)) ∷ []) depth s.now i f) }
+    ensures { MatchResult result (λ p. Made 0 (Init Value) (IsInit IsValue) (of_init of_value) (Way (each (declareds (set_sort stored)) ∷ []) depth s.now i) s.now i used nodes.old nodes.new p) (λ f. Refused (each (declareds (set_sort stored)) ∷ []) depth s.now i f) }
 {
     if peek(s, i) != Symbol::Name {
         return Err(Fault::Syntax(i));
@@ -964,7 +964,7 @@ fn local_init(
 ) -> Result<Parsed, Fault>
     requires within { i ≤ length s.now }
     requires room { used + 2 * length s.now ≤ length nodes.old + 2 * i }
-    ensures { MatchResult result (λ p. Made 0 (Init (Expr 5)) (IsInit IsExpr) (of_init of_expr) (Way (each (declareds (set-sort inblock)) ∷ []) depth s.now i) s.now i used nodes.old nodes.new p) (λ f. Refused (each (declareds (set-sort inblock)) ∷ []) depth s.now i f) }
+    ensures { MatchResult result (λ p. Made 0 (Init (Expr 5)) (IsInit IsExpr) (of_init of_expr) (Way (each (declareds (set_sort inblock)) ∷ []) depth s.now i) s.now i used nodes.old nodes.new p) (λ f. Refused (each (declareds (set_sort inblock)) ∷ []) depth s.now i f) }
 {
     if peek(s, i) != Symbol::Name {
         return Err(Fault::Syntax(i));
@@ -1043,7 +1043,7 @@ fn stored_inits(
 ) -> Result<Parsed, Fault>
     requires within { i ≤ length s.now }
     requires room { used + 2 * length s.now ≤ length nodes.old + 2 * i }
-    ensures { MatchResult result (λ p. Made 0 (Many (Init Value)) (IsMany (IsInit IsValue)) (of_inits of_value) (Way (all (declareds (set-sort stored)) ∷ []) depth s.now i) s.now i used nodes.old nodes.new p) (λ f. Refused (all (declareds (set-sort stored)) ∷ []) depth s.now i f) }
+    ensures { MatchResult result (λ p. Made 0 (Many (Init Value)) (IsMany (IsInit IsValue)) (of_inits of_value) (Way (all (declareds (set_sort stored)) ∷ []) depth s.now i) s.now i used nodes.old nodes.new p) (λ f. Refused (all (declareds (set_sort stored)) ∷ []) depth s.now i f) }
 {
     let mut at = stored_init(s, i, depth, nodes, used)?;
     while peek(s, at.next) == Symbol::Comma {
@@ -1067,7 +1067,7 @@ fn local_inits(
 ) -> Result<Parsed, Fault>
     requires within { i ≤ length s.now }
     requires room { used + 2 * length s.now ≤ length nodes.old + 2 * i }
-    ensures { MatchResult result (λ p. Made 0 (Many (Init (Expr 5))) (IsMany (IsInit IsExpr)) (of_inits of_expr) (Way (all (declareds (set-sort inblock)) ∷ []) depth s.now i) s.now i used nodes.old nodes.new p) (λ f. Refused (all (declareds (set-sort inblock)) ∷ []) depth s.now i f) }
+    ensures { MatchResult result (λ p. Made 0 (Many (Init (Expr 5))) (IsMany (IsInit IsExpr)) (of_inits of_expr) (Way (all (declareds (set_sort inblock)) ∷ []) depth s.now i) s.now i used nodes.old nodes.new p) (λ f. Refused (all (declareds (set_sort inblock)) ∷ []) depth s.now i f) }
 {
     let mut at = local_init(s, i, depth, nodes, used)?;
     while peek(s, at.next) == Symbol::Comma {

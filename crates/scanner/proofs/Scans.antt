@@ -4,10 +4,10 @@ use Rattle.std.specs.List.{prefix_len}
 use Rattle.std.proofs.lemmas.List.{drop-drop, drop_all, drop_more, length-drop, length-take, length-take-le, nil_from_length}
 use Rattle.std.proofs.lemmas.Bool.{cases_lt, lt-ltb, le-ltb, eq-eqb, ne_eqb, cond-true, cond-false, and_from, and_left, and_right}
 use Rattle.answers.proofs.Fronts.{take_min}
-use Rattle.symbols.proofs.Covers.{word_at as word-behind}
+use Rattle.symbols.proofs.Covers.{word_at as word_behind}
 use Rattle.symbols.specs.Bytes.{space, name_byte}
 use Rattle.symbols.specs.Spellings.{sign, digit_in}
-use Rattle.symbols.specs.See.{Sight, found, short, stuck, keyword_of, base_of, named as named-as, see_word, see_name, see_behind, see_closing, see_enclosed}
+use Rattle.symbols.specs.See.{Sight, found, short, stuck, keyword_of, base_of, named as named_as, see_word, see_name, see_behind, see_closing, see_enclosed}
 use Rattle.symbols.specs.declared.Base.{Base}
 use Rattle.symbols.specs.declared.Symbol.{Symbol}
 use Rattle.symbols.specs.declared.Symbol.TheVariants.{Integer}
@@ -60,13 +60,13 @@ shown t x i n b l s =
 pub named_shown :
     (t : List ℕ) (x : Sight) (i : Item) (n : ℕ)
     → n ≤ length t
-    → symbol_of i ≡ Some (named-as (keyword_of (take (n - 0) t)))
+    → symbol_of i ≡ Some (named_as (keyword_of (take (n - 0) t)))
     → bytes_of i ≡ take (n - 0) t
     → x ≡ see_name (take n t) n
     → Shows t x i
 named_shown t x i n l p b s =
     shown t x i n (b ∙ part t n) l
-    (s ∙ ap (λ f. found f n) (ap (λ w. Some (named-as (keyword_of w))) (sym (part t n)) ∙ sym p))
+    (s ∙ ap (λ f. found f n) (ap (λ w. Some (named_as (keyword_of w))) (sym (part t n)) ∙ sym p))
 
 -- the word of the first n bytes
 pub word_at :
@@ -75,7 +75,7 @@ pub word_at :
     → base_of (take n t) ≡ o
     → see_word t ≡ see_behind (take n t) n (drop n t) o
 word_at t n o e b =
-    word-behind t n (take n t) (drop n t) (sym e) refl refl ∙ ap (see_behind (take n t) n (drop n t)) b
+    word_behind t n (take n t) (drop n t) (sym e) refl refl ∙ ap (see_behind (take n t) n (drop n t)) b
 
 -- where no part is found, no item is
 pub no_part :

@@ -2,7 +2,7 @@
 ghost use Rattle.std.specs.Prelude.{◌≡◌, ◌<◌, ◌≤◌, [], ◌∷◌, length, take, drop, Some, None};
 ghost use Rattle.scanner.specs.Classes.{holds};
 ghost use Rattle.scanner.specs.Seen.{Compound, Marked, Part, Sees, Shows, SimpleIs, bytes_of, symbol_of};
-ghost use Rattle.symbols.specs.See.{keyword_of, named as named-as, see, see_behind, see_enclosed, see_mark, see_quoted, see_word, marks};
+ghost use Rattle.symbols.specs.See.{keyword_of, named as named_as, see, see_behind, see_enclosed, see_mark, see_quoted, see_word, marks};
 ghost use Rattle.symbols.specs.Bytes.{comment_byte, string_byte};
 ghost use Rattle.symbols.specs.declared.Symbol.TheVariants.{Text};
 
@@ -68,7 +68,7 @@ fn mark(text: &[u8]) -> Option<(Separator, &[u8])>
 
 /// A name is a keyword or an identifier.
 fn named<'t>(name: &'t [u8]) -> Item<'t>
-    ensures symbol { symbol_of result ≡ Some (named-as (keyword_of name.now)) }
+    ensures symbol { symbol_of result ≡ Some (named_as (keyword_of name.now)) }
     ensures bytes { bytes_of result ≡ name.now }
 {
     match keyword(name) {

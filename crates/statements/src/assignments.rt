@@ -5,7 +5,7 @@ ghost use Rattle.nodes.specs.Nodes.{IsMany, IsPrimary, IsVariable, IsDestination
 ghost use Rattle.grammar.specs.Symbols.{Says, STOP, NAME, BECOMES, VAL};
 ghost use Rattle.grammar.specs.Trees.{Many, Primary, Variable, Destination, Statement, of_variable, of_statement};
 ghost use Rattle.grammar.specs.Machine.{tok, parts, start, a_source, a_statement};
-ghost use Rattle.statements.specs.Assigning.{Form, Shows, IsPlace, invocation as invocation-of, of_target, of_targets, TargetsWay, ValWay, Onward};
+ghost use Rattle.statements.specs.Assigning.{Form, Shows, IsPlace, invocation as invocation_of, of_target, of_targets, TargetsWay, ValWay, Onward};
 
 use expressions::{expr, form, variable};
 use grammar::Symbol;
@@ -59,7 +59,7 @@ fn destined(s: &[Symbol], j: usize, shape: Shape) -> bool
 
 /// The node of the statement that a form of this shape is, if it is a call.
 fn invocation(shape: Shape) -> Option<Node>
-    ensures { result ≡ invocation-of shape }
+    ensures { result ≡ invocation_of shape }
 {
     match shape {
         Shape::Place => None,

@@ -16,7 +16,7 @@ use Rattle.nodes.specs.declared.Fault.{Fault}
 use Rattle.nodes.specs.declared.Fault.TheVariants.{Syntax, Deep}
 use Rattle.terminals.specs.Signs.{signs}
 use Rattle.syntax.specs.Parsing.{place_of, Parses, module_read, unexpected, too_deep}
-use Rattle.syntax.specs.Declining.{declined as declined-by}
+use Rattle.syntax.specs.Declining.{declined as declined_by}
 
 -- the place of an item
 pub placed : (es : List Entry) (i : ℕ) (x : Entry) (end : Place) → i < length es → (get_or es i x).start ≡ place_of es end i
@@ -50,7 +50,7 @@ module _ (es : List Entry) (end : Place) (ns : List Node) (s : List Symbol) (e :
       let made : Made x.0 (signs es) = subst (Made x.0) e x.2 in
       module_read k x.0 (meant fine x.3) made (λ n h. unique x.0 n (made ∙ sym h)) x.1
 
-  pub fault_answer : (f : Fault) → run 32 a_module 0 s ≡ answer f → Parses es end ns (Err (declined-by es end f))
+  pub fault_answer : (f : Fault) → run 32 a_module 0 s ≡ answer f → Parses es end ns (Err (declined_by es end f))
   fault_answer (Syntax i) h = unexpected i (meant (answer (Syntax i)) h)
   fault_answer (Deep i) h = too_deep i (meant (answer (Deep i)) h)
 

@@ -4,7 +4,7 @@ use Rattle.grammar.specs.Symbols.{among, NAME, INTEGER, TEXT, LEFT, RIGHT, COMMA
 use Rattle.grammar.specs.Machine.{links_on}
 use Rattle.nodes.specs.Nodes.{Agree}
 use Rattle.nodes.specs.declared.Node.TheVariants.{Name, Element}
-use Rattle.nodes.specs.Made.{by_name, monadics, rank as rank-of}
+use Rattle.nodes.specs.Made.{by_name, monadics, rank as rank_of}
 use Rattle.nodes.proofs.Keep.{agree_set, at_set, agree_trans}
 use Rattle.nodes.proofs.Results.{otherwise, differs, agrees}
 use Rattle.nodes.proofs.Build.{far, rebased}
@@ -118,13 +118,13 @@ level-loop-nodes-init t c = level_up c.args.depth c.args.s.now c.args.i c.args.u
 pub level-returns-in_err-e : goal.level-returns-in_err-e
 level-returns-in_err-e t c =
     let p = err_from_is_err_and c.from_residual-in_err-e.result c.from_residual-in_err-e.ensures.1 in
-    rw (p.1, p.2) (level_refused c.args.depth c.args.s.now c.args.i c.args.used (c.args.n - 1) _ _ c.loop-nodes.at c.loop-nodes.invariant (c.peek.ensures.there (no_stop _ (c.args.n - 1) (sym c.rank.ensures ∙ c.loop-nodes-test.true) (omega arith))) (ap rank-of (sym c.peek.ensures.is) ∙ sym c.rank.ensures ∙ c.loop-nodes-test.true) (omega arith) _ c.in_err-e.ensures)
+    rw (p.1, p.2) (level_refused c.args.depth c.args.s.now c.args.i c.args.used (c.args.n - 1) _ _ c.loop-nodes.at c.loop-nodes.invariant (c.peek.ensures.there (no_stop _ (c.args.n - 1) (sym c.rank.ensures ∙ c.loop-nodes-test.true) (omega arith))) (ap rank_of (sym c.peek.ensures.is) ∙ sym c.rank.ensures ∙ c.loop-nodes-test.true) (omega arith) _ c.in_err-e.ensures)
 
 pub level-loop-nodes-preserved : goal.level-loop-nodes-preserved
-level-loop-nodes-preserved t c = level_goes c.args.depth c.args.s.now c.args.i c.args.used (c.args.n - 1) _ _ c.loop-nodes.at c.loop-nodes.invariant (c.peek.ensures.there (no_stop _ (c.args.n - 1) (sym c.rank.ensures ∙ c.loop-nodes-test.true) (omega arith))) (ap rank-of (sym c.peek.ensures.is) ∙ sym c.rank.ensures ∙ c.loop-nodes-test.true) (omega arith) _ c.in_ok-e.e _ c.peek-in-loop-nodes.ensures.is (omega (arith, c.in_ok-e.ensures)) c.in_ok-e.ensures
+level-loop-nodes-preserved t c = level_goes c.args.depth c.args.s.now c.args.i c.args.used (c.args.n - 1) _ _ c.loop-nodes.at c.loop-nodes.invariant (c.peek.ensures.there (no_stop _ (c.args.n - 1) (sym c.rank.ensures ∙ c.loop-nodes-test.true) (omega arith))) (ap rank_of (sym c.peek.ensures.is) ∙ sym c.rank.ensures ∙ c.loop-nodes-test.true) (omega arith) _ c.in_ok-e.e _ c.peek-in-loop-nodes.ensures.is (omega (arith, c.in_ok-e.ensures)) c.in_ok-e.ensures
 
 pub level-returns : goal.level-returns
-level-returns t c = level_ends c.args.depth c.args.s.now c.args.i c.args.used (c.args.n - 1) _ _ c.loop-nodes.at c.loop-nodes.invariant c.args.n (omega arith) _ c.in_ok-at.ensures.kept (λ e. c.loop-nodes-test.false (c.rank.ensures ∙ ap rank-of c.peek.ensures.is ∙ e))
+level-returns t c = level_ends c.args.depth c.args.s.now c.args.i c.args.used (c.args.n - 1) _ _ c.loop-nodes.at c.loop-nodes.invariant c.args.n (omega arith) _ c.in_ok-at.ensures.kept (λ e. c.loop-nodes-test.false (c.rank.ensures ∙ ap rank_of c.peek.ensures.is ∙ e))
 
 pub primary-returns-in_err-e-in-Left : goal.primary-returns-in_err-e-in-Left
 primary-returns-in_err-e-in-Left t c =

@@ -1,10 +1,10 @@
 use Rattle.std.proofs.Common.{◌-◌, length}
-use Rattle.grammar.specs.Machine.{all, declareds, set as set-sort, stored}
+use Rattle.grammar.specs.Machine.{all, declareds, set as set_sort, stored}
 use Rattle.parser.proofs.Repeat.{SomeMade, stored_list}
 use Rattle.parser.proofs.stored_inits.Given as goal
 
 abbrev pub invariant-loop-nodes : goal.invariant-loop-nodes
-invariant-loop-nodes l = SomeMade 0 stored_list (all (declareds (set-sort stored))) l.depth l.s l.i l.used l.initial.nodes l.nodes l.at
+invariant-loop-nodes l = SomeMade 0 stored_list (all (declareds (set_sort stored))) l.depth l.s l.i l.used l.initial.nodes l.nodes l.at
 
 abbrev pub decreases-loop-nodes : goal.decreases-loop-nodes
 decreases-loop-nodes l = length l.s - l.at.next
