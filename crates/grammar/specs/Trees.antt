@@ -1,5 +1,5 @@
 -- The syntax of a module: trees, and the items that a tree is made of, in their order. Assumes nothing.
--- A number in a tree is the number of an item of the text, the first being 0. Which items a constructor's numbers are of, its line of `of-…` says.
+-- A number in a tree is the number of an item of the text, the first being 0. Which items a constructor's numbers are of, its line of `of_…` says.
 use Rattle.std.specs.Prelude.{ℕ, suc, Bool, cond, List, [], ◌∷◌}
 use Rattle.grammar.specs.Symbols.{NAME, INTEGER, TEXT, ABS, AND, ARRAY, BLOCK, BYTE, DATA, DO, ELSE, ELSEIF, END, ENDBLOCK, ENDDATA, ENDPROC, ENT, EXT, IF, INT, LAND, LENGTH, LOR, MOD, MODE, NEV, NOT, OR, PROC, REF, REP, RETURN, THEN, TO, VAL, WHILE, LEFT, RIGHT, STAR, PLUS, MINUS, COMMA, DOT, SEMI, LESS, EQUAL, MORE, HASH, BECOMES, DIVIDE, ATMOST, ATLEAST, IS, ISNT, among, Symbol}
 

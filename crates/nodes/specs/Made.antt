@@ -15,7 +15,7 @@ use Rattle.nodes.specs.declared.Fault.TheVariants.{Syntax, Deep}
 abbrev pub at : ℕ → List Goal → List Symbol → ℕ → Answer
 at d γ s i = run d γ i (drop i s)
 
--- From the number i on a tree was read whose items lie before the number p .next, and for which M holds there. The nodes ns became ms,
+-- From the number i on a tree was read whose items lie before the number p.next, and for which M holds there. The nodes ns became ms,
 -- which stand for it; there are at most two nodes to an item, and x more.
 pub record Made (x : ℕ) (T : Type 0) (Is : T → List Node → ℕ → Type 0) (of : Spelling T) (M : T → ℕ → Type 0) (s : List Symbol) (i used : ℕ) (ns ms : List Node) (p : Parsed) : Type 0 where
   pub within : p.next ≤ length s
