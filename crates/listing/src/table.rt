@@ -1,10 +1,15 @@
 //! Tables of texts. A line of a table is a count, a space and a text that stands so often; in it `\n`, `\t`, `\0`, `\d` and `\e` are the
 //! bytes 10, 9, 0, 127 and 233, and `\` before any other byte is that byte.
+ghost use Rattle.std.specs.Prelude.{◌≡◌, ◌++◌, IfOk};
+ghost use Rattle.listing.specs.Escapes.{escaped_byte, unescaped, line_text};
+
 use anyhow::anyhow;
 use std::alloc::{AllocError, Global};
 
 /// The byte that stands for an escape.
-fn escaped(b: u8) -> u8 {
+fn escaped(b: u8) -> u8
+    ensures { result ≡ escaped_byte b }
+{
     match b {
         b'n' => 10,
         b't' => 9,
@@ -16,7 +21,9 @@ fn escaped(b: u8) -> u8 {
 }
 
 /// Adds the text to the bytes, with its escapes taken away.
-fn add(bytes: &mut Vec<u8>, text: &[u8]) -> Result<(), AllocError> {
+fn add(bytes: &mut Vec<u8>, text: &[u8]) -> Result<(), AllocError>
+    ensures { IfOk result (λ _. bytes.new.items ≡ bytes.old.items ++ unescaped text.now) }
+{
     let mut after = false;
     for b in text {
         if after {
@@ -32,7 +39,9 @@ fn add(bytes: &mut Vec<u8>, text: &[u8]) -> Result<(), AllocError> {
 }
 
 /// The text of a line of the table.
-pub fn expand(heap: Global, line: &str) -> anyhow::Result<Vec<u8>> {
+pub fn expand(heap: Global, line: &str) -> anyhow::Result<Vec<u8>>
+    ensures { IfOk result (λ bytes. bytes.items ≡ line_text line.now) }
+{
     let Some((count, text)) = line.split_once(' ') else {
         return Err(anyhow!("no count"));
     };
