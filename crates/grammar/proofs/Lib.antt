@@ -9,3 +9,4 @@ pub mod Answers
 pub mod Shown
 pub mod Steps
 pub mod Depth
+pub mod Tests
