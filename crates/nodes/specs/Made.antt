@@ -1,5 +1,5 @@
 -- What a function of the parser answers. Assumes nothing.
-use Rattle.std.specs.Prelude.{◌≡◌, ℕ, ◌+◌, ◌-◌, ◌*◌, ◌<◌, ◌≤◌, true, cond, List, [], ◌∷◌, ◌++◌, length, drop, ◌≢◌, slice_index_or}
+use Rattle.std.specs.Prelude.{◌≡◌, ℕ, ◌+◌, ◌-◌, ◌*◌, ◌<◌, ◌≤◌, true, cond, List, [], ◌∷◌, ◌++◌, length, drop, ◌≢◌, slice_index_or, Result, MatchResult}
 use Rattle.grammar.specs.Symbols.{among, same, STOP, PLUS, MINUS, STAR, DIVIDE, MOD, LAND, LOR, NEV, ABS, NOT, BYTE, LENGTH, LEFT, RIGHT, DOT, COMMA, NAME, BECOMES, EQUAL, HASH, LESS, ATMOST, MORE, ATLEAST, IS, ISNT}
 use Rattle.grammar.specs.declared.Symbol.{Symbol}
 use Rattle.grammar.specs.Trees.{Spelling, Token, key, Many, of_many, of_name, Primary, integer, text, variable, call, call_on, paren, Variable, Exprs, first, comma}
@@ -8,6 +8,7 @@ use Rattle.grammar.specs.Machine.{Goal, each, declareds, set, Setting, chain, th
 use Rattle.nodes.specs.Nodes.{Agree}
 use Rattle.nodes.specs.declared.Node.{Node}
 use Rattle.nodes.specs.declared.Parsed.{Parsed}
+use Rattle.nodes.specs.declared.Spot.{Spot}
 use Rattle.nodes.specs.declared.Fault.{Fault}
 use Rattle.nodes.specs.declared.Fault.TheVariants.{Syntax, Deep}
 
@@ -38,6 +39,19 @@ answer (Deep e) = deep e
 
 abbrev pub Refused : List Goal → ℕ → List Symbol → ℕ → Fault → Type 0
 Refused β d s i f = (α : List Goal) → at d (β ++ α) s i ≡ answer f
+
+-- There are two nodes free for each terminal from the spot on, and x more.
+abbrev pub Room : ℕ → Spot → List Node → Type 0
+Room x a ns = a.used + x + 2 * length a.symbols.now ≤ length ns + 2 * a.next
+
+-- What reading from a spot answers: where M holds for a tree from there to a place, this tree; or a fault of which F holds. The nodes
+-- ns became ms.
+abbrev pub Reads : (x : ℕ) {T : Type 0} → (T → List Node → ℕ → Type 0) → Spelling T → (ℕ → List Symbol → ℕ → T → ℕ → Type 0) → (ℕ → List Symbol → ℕ → Fault → Type 0) → Spot → List Node → List Node → Result Parsed Fault → Type 0
+Reads x Is of M F a ns ms r = MatchResult r (λ p. Made x _ Is of (M a.depth a.symbols.now a.next) a.symbols.now a.next a.used ns ms p) (λ f. F a.depth a.symbols.now a.next f)
+
+-- the same where the goals β are met by what was read
+abbrev pub ReadsTo : (x : ℕ) {T : Type 0} → (T → List Node → ℕ → Type 0) → Spelling T → List Goal → Spot → List Node → List Node → Result Parsed Fault → Type 0
+ReadsTo x Is of β a ns ms r = Reads x Is of (Way β) (Refused β) a ns ms r
 
 -- An expression of level n is followed by no operator of a lower level.
 abbrev pub rank : Symbol → ℕ

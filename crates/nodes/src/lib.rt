@@ -3,6 +3,11 @@
 
 ghost use Rattle.std.specs.Prelude.{◌≡◌, ◌<◌, length, ◌≢◌, slice_index_or};
 ghost use Rattle.grammar.specs.Symbols.{STOP};
+ghost use Rattle.std.specs.Prelude.{[], ◌∷◌};
+ghost use Rattle.grammar.specs.Trees.{of_mode};
+ghost use Rattle.grammar.specs.Machine.{a_mode};
+ghost use Rattle.nodes.specs.Nodes.{IsMode};
+ghost use Rattle.nodes.specs.Made.{Room, ReadsTo};
 
 use grammar::Symbol;
 
@@ -98,10 +103,29 @@ pub enum Fault {
     Deep(usize),
 }
 
-/// The terminal with the number i; behind the last, one that stands in no module.
-pub fn peek(s: &[Symbol], i: usize) -> Symbol
-    ensures is { result ≡ slice_index_or s.now i STOP }
-    ensures there { (result ≢ STOP) → i < length s.now }
+/// Where reading stands: the terminals of the module, the number of the next one, how many brackets may still open, and how many nodes are
+/// used.
+#[derive(Clone, Copy)]
+pub struct Spot<'s> {
+    pub symbols: &'s [Symbol],
+    pub next: usize,
+    pub depth: usize,
+    pub used: usize,
+}
+
+impl<'s> Spot<'s> {
+    /// The terminal with the number i; behind the last, one that stands in no module.
+    pub fn peek(self, i: usize) -> Symbol
+        ensures is { result ≡ slice_index_or self.entry.symbols.now i STOP }
+        ensures there { (result ≢ STOP) → i < length self.entry.symbols.now }
+    {
+        self.symbols.get(i).copied().unwrap_or(Symbol::Stop)
+    }
+}
+
+pub fn probe(from: Spot<'_>, nodes: &mut [Node]) -> Result<Parsed, Fault>
+    requires room { Room 1 from nodes.old }
+    ensures { ReadsTo 0 IsMode of_mode (a_mode ∷ []) from.entry nodes.old nodes.new result }
 {
-    if i < s.len() { s[i] } else { Symbol::Stop }
+    Err(Fault::Syntax(from.next))
 }
