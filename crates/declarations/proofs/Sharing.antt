@@ -4,14 +4,14 @@ use Rattle.grammar.specs.Symbols.{code, same, same_true, STOP, NAME, BECOMES}
 use Rattle.grammar.specs.declared.Symbol.{Symbol}
 use Rattle.grammar.specs.Trees.{Token, token, key, Opt, none, some, Many, one, more, Init, plain, given, of_init, of_many, of_name}
 use Rattle.grammar.specs.Sentences.{items}
-use Rattle.grammar.specs.Machine.{Goal, Forest, Move, refuse, each, declareds, unset, set as set_sort, Setting, stored, inblock, Initial, given_on, chain, linked, uses, value, a_value, an_expr, a_term, links_on, named, inner, at_value, at_expr, taken, onto_stack, step, done, is_some, pair, void}
-use Rattle.grammar.proofs.Spell.{of_initial}
+use Rattle.grammar.specs.Machine.{Goal, Forest, Move, refuse, each, declareds, unset, set as set_sort, Setting, stored, inblock, Initial, given_on, chain, linked, uses, value, a_value, an_expr, a_term, links_on, named, inner, at_value, at_expr, taken, onto_stack, step, done, is_some, pair, void, of_initial}
 use Rattle.grammar.proofs.Expressions.{on_not}
 use Rattle.grammar.proofs.Steps.{items_here, step_at, refuse_at, refuses, like_at, skip_at, followed_at, expr_at, mapped_on}
 use Rattle.nodes.proofs.Build.{grown, not_on, far}
 use Rattle.nodes.proofs.Keep.{keep_value, keep_expr, keep_name, keep_many, agree_set, at_set, agree_trans}
 use Rattle.nodes.specs.Made.{at, Made, Way, Refused, Shares, of_shared, NamesWay}
 use Rattle.nodes.specs.Nodes.{Agree, Reading, IsMany, IsName, IsInit, IsValue, IsExpr}
+use Rattle.declarations.specs.Declaring.{IsInitial, goal_of}
 use Rattle.nodes.specs.declared.Node.{Node}
 use Rattle.nodes.specs.declared.Node.TheVariants as node
 use Rattle.nodes.specs.declared.Parsed.{Parsed}
@@ -60,15 +60,6 @@ more_names s i used es ns p m q r =
     (λ g a. (p.root, p.used, omega (arith, m.below), omega arith, a, keep_many (p.used + 1) ms _ g IsName (keep_name (p.used + 1) ms _ g) m.tree p.root (omega (arith, m.below)) (keep_many p.used ns ms g₁ IsName (keep_name p.used ns ms g₁) m.tree p.root m.below m.is), g p.used (omega arith) ∙ at_set p.used ns _ (omega arith)))
     (m.text ∙ ap (λ (w : List Token). of_many of_name BECOMES m.tree (key BECOMES ∷ w)) (two_items s p.next q))
     (λ d v α. m.met d v α ∙ more_way d v α s p.next q))
-
--- what is set, and its goal
-abbrev pub IsInitial : (v : Setting) → Reading (Initial v)
-IsInitial stored = IsValue
-IsInitial inblock = IsExpr
-
-abbrev pub goal_of : Setting → Goal
-goal_of stored = a_value
-goal_of inblock = an_expr
 
 keep_initial : (v : Setting) (n : ℕ) (ns ms : List Node) → Agree n ns ms → (t : Initial v) (k : ℕ) → k < n → IsInitial v t ns k → IsInitial v t ms k
 keep_initial stored n ns ms a t k h is = keep_value n ns ms a t k h is

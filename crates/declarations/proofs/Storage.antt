@@ -8,7 +8,8 @@ use Rattle.grammar.specs.Machine.{Goal, Move, skip, orelse, then, never, tok, al
 use Rattle.grammar.proofs.Steps.{items_here, step_at, sink_at, skip_at}
 use Rattle.nodes.proofs.Build.{grown, not_on, fewer_is, more_is, token_refused}
 use Rattle.nodes.proofs.Keep.{keep_mode, keep_amode, keep_many, keep_name, keep_init, keep_value, agree_trans}
-use Rattle.nodes.proofs.Repeat.{described_list, storing_list, decs_begin, starts, refused, goes, ends}
+use Rattle.nodes.proofs.Repeat.{decs_begin, starts, refused, goes, ends}
+use Rattle.nodes.specs.Lists.{described_list, storing_list}
 use Rattle.nodes.specs.Made.{at, Made, Way, Refused}
 use Rattle.nodes.specs.Nodes.{Agree, IsMany, IsName, IsInit, IsValue, IsDec}
 use Rattle.nodes.specs.declared.Node.{Node}

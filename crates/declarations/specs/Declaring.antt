@@ -3,8 +3,8 @@ use Rattle.std.specs.Prelude.{List, [], ◌∷◌}
 use Rattle.grammar.specs.Symbols.{INT, BYTE, REF, COMMA}
 use Rattle.grammar.specs.declared.Symbol.{Symbol}
 use Rattle.grammar.specs.Trees.{Spelling, Many, of_many, of_name, of_init, of_value}
-use Rattle.grammar.specs.Machine.{Sort, unset, set, stored, Declared}
-use Rattle.nodes.specs.Nodes.{Reading, IsMany, IsName, IsInit, IsValue}
+use Rattle.grammar.specs.Machine.{Goal, Setting, Initial, inblock, a_value, an_expr, Sort, unset, set, stored, Declared}
+use Rattle.nodes.specs.Nodes.{Reading, IsMany, IsName, IsInit, IsValue, IsExpr}
 use Rattle.declarations.specs.declared.bricks.Declaring.{Declaring}
 use Rattle.declarations.specs.declared.bricks.Declaring.TheVariants.{Described, Stored}
 
@@ -34,3 +34,13 @@ IsListing k = IsMany (IsDeclared k)
 
 abbrev pub of_listing : (k : Declaring) → Spelling (Listing k)
 of_listing k = of_many (of_declaring k) COMMA
+
+-- an initial value: its nodes, and the goal that it meets
+-- what is set, and its goal
+abbrev pub IsInitial : (v : Setting) → Reading (Initial v)
+IsInitial stored = IsValue
+IsInitial inblock = IsExpr
+
+abbrev pub goal_of : Setting → Goal
+goal_of stored = a_value
+goal_of inblock = an_expr

@@ -1,6 +1,6 @@
 //! Reading lists of modes, and what a data brick declares, into nodes.
 ghost use Rattle.std.specs.Prelude.{◌≡◌, ◌+◌, ◌*◌, ◌<◌, ◌≤◌, true, [], ◌∷◌, length, MatchResult, slice_index_or};
-ghost use Rattle.nodes.specs.Made.{Made, Way, Refused};
+ghost use Rattle.nodes.specs.Made.{Made, Way, Refused, Room, ReadsTo};
 ghost use Rattle.nodes.specs.Nodes.{IsMany, IsMode, IsDec};
 ghost use Rattle.grammar.specs.Symbols.{among, STOP, NAME, ARRAY, COMMA, SEMI};
 ghost use Rattle.grammar.specs.Trees.{Many, of_many, Mode, of_mode, Dec, of_dec};
@@ -9,23 +9,24 @@ ghost use Rattle.declarations.specs.Declaring.{mode_firsts, sort_of, Listing, Is
 
 use crate::{amode, mode, names, stored_inits};
 use grammar::Symbol;
-use nodes::{Fault, Node, Parsed, peek};
+use nodes::{Fault, Node, Parsed, Spot};
 
 /// Modes, separated by commas.
-pub fn modes(
-    s: &[Symbol],
-    i: usize,
-    depth: usize,
-    nodes: &mut [Node],
-    used: usize,
-) -> Result<Parsed, Fault>
-    requires within { i ≤ length s.now }
-    requires room { used + 2 * length s.now ≤ length nodes.old + 2 * i }
-    ensures { MatchResult result (λ p. Made 0 (Many Mode) (IsMany IsMode) (of_many of_mode COMMA) (Way (all the_modes ∷ []) depth s.now i) s.now i used nodes.old nodes.new p) (λ f. Refused (all the_modes ∷ []) depth s.now i f) }
+pub fn modes(from: Spot<'_>, nodes: &mut [Node]) -> Result<Parsed, Fault>
+    requires within { from.next ≤ length from.symbols.now }
+    requires room { Room 0 from nodes.old }
+    ensures { ReadsTo 0 (Many Mode) (IsMany IsMode) (of_many of_mode COMMA) (all the_modes ∷ []) from.entry nodes.old nodes.new result }
 {
-    let mut at = mode(s, i, depth, nodes, used)?;
-    while peek(s, at.next) == Symbol::Comma {
-        let e = mode(s, at.next + 1, depth, nodes, at.used)?;
+    let mut at = mode(from, nodes)?;
+    while from.peek(at.next) == Symbol::Comma {
+        let e = mode(
+            Spot {
+                next: at.next + 1,
+                used: at.used,
+                ..from
+            },
+            nodes,
+        )?;
         nodes[e.used] = Node::Also(at.root, e.root);
         at = Parsed {
             next: e.next,
@@ -44,53 +45,53 @@ pub enum Declaring {
 }
 
 /// The names of one declaration, separated by commas.
-fn listing(
-    s: &[Symbol],
-    i: usize,
-    depth: usize,
-    nodes: &mut [Node],
-    used: usize,
-    how: Declaring,
-) -> Result<Parsed, Fault>
-    requires within { i ≤ length s.now }
-    requires room { used + 2 * length s.now ≤ length nodes.old + 2 * i }
-    ensures { MatchResult result (λ p. Made 0 (Listing how) (IsListing how) (of_listing how) (Way (all (declareds (sort_of how)) ∷ []) depth s.now i) s.now i used nodes.old nodes.new p) (λ f. Refused (all (declareds (sort_of how)) ∷ []) depth s.now i f) }
+fn listing(from: Spot<'_>, nodes: &mut [Node], how: Declaring) -> Result<Parsed, Fault>
+    requires within { from.next ≤ length from.symbols.now }
+    requires room { Room 0 from nodes.old }
+    ensures { ReadsTo 0 (Listing how) (IsListing how) (of_listing how) (all (declareds (sort_of how)) ∷ []) from.entry nodes.old nodes.new result }
 {
     match how {
-        Declaring::Described => names(s, i, depth, nodes, used),
-        Declaring::Stored => stored_inits(s, i, depth, nodes, used),
+        Declaring::Described => names(from, nodes),
+        Declaring::Stored => stored_inits(from, nodes),
     }
 }
 
 /// The declaration of arrays, ARRAY being at i.
-fn arrays(
-    s: &[Symbol],
-    i: usize,
-    depth: usize,
-    nodes: &mut [Node],
-    used: usize,
-    how: Declaring,
-) -> Result<Parsed, Fault>
-    requires array { slice_index_or s.now i STOP ≡ ARRAY }
-    requires there { i < length s.now }
-    requires room { used + 1 + 2 * length s.now ≤ length nodes.old + 2 * i }
-    ensures { MatchResult result (λ p. Made 1 (Dec (Listing how)) (IsDec (IsListing how)) (of_dec (of_listing how)) (Way (each (the_decs (sort_of how)) ∷ []) depth s.now i) s.now i used nodes.old nodes.new p) (λ f. Refused (each (the_decs (sort_of how)) ∷ []) depth s.now i f) }
+fn arrays(from: Spot<'_>, nodes: &mut [Node], how: Declaring) -> Result<Parsed, Fault>
+    requires array { slice_index_or from.symbols.now from.next STOP ≡ ARRAY }
+    requires there { from.next < length from.symbols.now }
+    requires room { Room 1 from nodes.old }
+    ensures { ReadsTo 1 (Dec (Listing how)) (IsDec (IsListing how)) (of_dec (of_listing how)) (each (the_decs (sort_of how)) ∷ []) from.entry nodes.old nodes.new result }
 {
-    if peek(s, i + 1) != Symbol::Left {
-        return Err(Fault::Syntax(i + 1));
+    if from.peek(from.next + 1) != Symbol::Left {
+        return Err(Fault::Syntax(from.next + 1));
     }
-    if depth == 0 {
-        return Err(Fault::Deep(i + 1));
+    if from.depth == 0 {
+        return Err(Fault::Deep(from.next + 1));
     }
-    if peek(s, i + 2) != Symbol::Integer {
-        return Err(Fault::Syntax(i + 2));
+    if from.peek(from.next + 2) != Symbol::Integer {
+        return Err(Fault::Syntax(from.next + 2));
     }
-    if peek(s, i + 3) != Symbol::Right {
-        return Err(Fault::Syntax(i + 3));
+    if from.peek(from.next + 3) != Symbol::Right {
+        return Err(Fault::Syntax(from.next + 3));
     }
-    let m = amode(s, i + 4, depth, nodes, used)?;
-    let n = listing(s, m.next, depth, nodes, m.used, how)?;
-    nodes[n.used] = Node::Arrays(i + 1, i + 2, m.root, n.root);
+    let m = amode(
+        Spot {
+            next: from.next + 4,
+            ..from
+        },
+        nodes,
+    )?;
+    let n = listing(
+        Spot {
+            next: m.next,
+            used: m.used,
+            ..from
+        },
+        nodes,
+        how,
+    )?;
+    nodes[n.used] = Node::Arrays(from.next + 1, from.next + 2, m.root, n.root);
     Ok(Parsed {
         next: n.next,
         used: n.used + 1,
@@ -99,21 +100,21 @@ fn arrays(
 }
 
 /// The declaration of records, the name of their mode being at i.
-fn structures(
-    s: &[Symbol],
-    i: usize,
-    depth: usize,
-    nodes: &mut [Node],
-    used: usize,
-    how: Declaring,
-) -> Result<Parsed, Fault>
-    requires name { slice_index_or s.now i STOP ≡ NAME }
-    requires there { i < length s.now }
-    requires room { used + 1 + 2 * length s.now ≤ length nodes.old + 2 * i }
-    ensures { MatchResult result (λ p. Made 1 (Dec (Listing how)) (IsDec (IsListing how)) (of_dec (of_listing how)) (Way (each (the_decs (sort_of how)) ∷ []) depth s.now i) s.now i used nodes.old nodes.new p) (λ f. Refused (each (the_decs (sort_of how)) ∷ []) depth s.now i f) }
+fn structures(from: Spot<'_>, nodes: &mut [Node], how: Declaring) -> Result<Parsed, Fault>
+    requires name { slice_index_or from.symbols.now from.next STOP ≡ NAME }
+    requires there { from.next < length from.symbols.now }
+    requires room { Room 1 from nodes.old }
+    ensures { ReadsTo 1 (Dec (Listing how)) (IsDec (IsListing how)) (of_dec (of_listing how)) (each (the_decs (sort_of how)) ∷ []) from.entry nodes.old nodes.new result }
 {
-    let n = listing(s, i + 1, depth, nodes, used, how)?;
-    nodes[n.used] = Node::Structures(i, n.root);
+    let n = listing(
+        Spot {
+            next: from.next + 1,
+            ..from
+        },
+        nodes,
+        how,
+    )?;
+    nodes[n.used] = Node::Structures(from.next, n.root);
     Ok(Parsed {
         next: n.next,
         used: n.used + 1,
@@ -122,21 +123,22 @@ fn structures(
 }
 
 /// The declaration of variables of a simple mode, which begins at i.
-fn variables(
-    s: &[Symbol],
-    i: usize,
-    depth: usize,
-    nodes: &mut [Node],
-    used: usize,
-    how: Declaring,
-) -> Result<Parsed, Fault>
-    requires begins { among mode_firsts (slice_index_or s.now i STOP) ≡ true }
-    requires there { i < length s.now }
-    requires room { used + 1 + 2 * length s.now ≤ length nodes.old + 2 * i }
-    ensures { MatchResult result (λ p. Made 1 (Dec (Listing how)) (IsDec (IsListing how)) (of_dec (of_listing how)) (Way (each (the_decs (sort_of how)) ∷ []) depth s.now i) s.now i used nodes.old nodes.new p) (λ f. Refused (each (the_decs (sort_of how)) ∷ []) depth s.now i f) }
+fn variables(from: Spot<'_>, nodes: &mut [Node], how: Declaring) -> Result<Parsed, Fault>
+    requires begins { among mode_firsts (slice_index_or from.symbols.now from.next STOP) ≡ true }
+    requires there { from.next < length from.symbols.now }
+    requires room { Room 1 from nodes.old }
+    ensures { ReadsTo 1 (Dec (Listing how)) (IsDec (IsListing how)) (of_dec (of_listing how)) (each (the_decs (sort_of how)) ∷ []) from.entry nodes.old nodes.new result }
 {
-    let m = mode(s, i, depth, nodes, used)?;
-    let n = listing(s, m.next, depth, nodes, m.used, how)?;
+    let m = mode(from, nodes)?;
+    let n = listing(
+        Spot {
+            next: m.next,
+            used: m.used,
+            ..from
+        },
+        nodes,
+        how,
+    )?;
     nodes[n.used] = Node::Variables(m.root, n.root);
     Ok(Parsed {
         next: n.next,
@@ -146,49 +148,43 @@ fn variables(
 }
 
 /// One declaration, which may be empty.
-fn dec(
-    s: &[Symbol],
-    i: usize,
-    depth: usize,
-    nodes: &mut [Node],
-    used: usize,
-    how: Declaring,
-) -> Result<Parsed, Fault>
-    requires within { i ≤ length s.now }
-    requires room { used + 1 + 2 * length s.now ≤ length nodes.old + 2 * i }
-    ensures { MatchResult result (λ p. Made 1 (Dec (Listing how)) (IsDec (IsListing how)) (of_dec (of_listing how)) (Way (each (the_decs (sort_of how)) ∷ []) depth s.now i) s.now i used nodes.old nodes.new p) (λ f. Refused (each (the_decs (sort_of how)) ∷ []) depth s.now i f) }
+fn dec(from: Spot<'_>, nodes: &mut [Node], how: Declaring) -> Result<Parsed, Fault>
+    requires within { from.next ≤ length from.symbols.now }
+    requires room { Room 1 from nodes.old }
+    ensures { ReadsTo 1 (Dec (Listing how)) (IsDec (IsListing how)) (of_dec (of_listing how)) (each (the_decs (sort_of how)) ∷ []) from.entry nodes.old nodes.new result }
 {
-    match peek(s, i) {
-        Symbol::Array => arrays(s, i, depth, nodes, used, how),
-        Symbol::Name => structures(s, i, depth, nodes, used, how),
-        Symbol::Int | Symbol::Byte | Symbol::Ref => variables(s, i, depth, nodes, used, how),
+    match from.peek(from.next) {
+        Symbol::Array => arrays(from, nodes, how),
+        Symbol::Name => structures(from, nodes, how),
+        Symbol::Int | Symbol::Byte | Symbol::Ref => variables(from, nodes, how),
         _ => {
-            nodes[used] = Node::Nothing;
+            nodes[from.used] = Node::Nothing;
             Ok(Parsed {
-                next: i,
-                used: used + 1,
-                root: used,
+                next: from.next,
+                used: from.used + 1,
+                root: from.used,
             })
         }
     }
 }
 
 /// The declarations of a data brick, separated by semicolons.
-pub fn decs(
-    s: &[Symbol],
-    i: usize,
-    depth: usize,
-    nodes: &mut [Node],
-    used: usize,
-    how: Declaring,
-) -> Result<Parsed, Fault>
-    requires within { i ≤ length s.now }
-    requires room { used + 1 + 2 * length s.now ≤ length nodes.old + 2 * i }
-    ensures { MatchResult result (λ p. Made 1 (Many (Dec (Listing how))) (IsMany (IsDec (IsListing how))) (of_many (of_dec (of_listing how)) SEMI) (Way (all (the_decs (sort_of how)) ∷ []) depth s.now i) s.now i used nodes.old nodes.new p) (λ f. Refused (all (the_decs (sort_of how)) ∷ []) depth s.now i f) }
+pub fn decs(from: Spot<'_>, nodes: &mut [Node], how: Declaring) -> Result<Parsed, Fault>
+    requires within { from.next ≤ length from.symbols.now }
+    requires room { Room 1 from nodes.old }
+    ensures { ReadsTo 1 (Many (Dec (Listing how))) (IsMany (IsDec (IsListing how))) (of_many (of_dec (of_listing how)) SEMI) (all (the_decs (sort_of how)) ∷ []) from.entry nodes.old nodes.new result }
 {
-    let mut at = dec(s, i, depth, nodes, used, how)?;
-    while peek(s, at.next) == Symbol::Semi {
-        let e = dec(s, at.next + 1, depth, nodes, at.used, how)?;
+    let mut at = dec(from, nodes, how)?;
+    while from.peek(at.next) == Symbol::Semi {
+        let e = dec(
+            Spot {
+                next: at.next + 1,
+                used: at.used,
+                ..from
+            },
+            nodes,
+            how,
+        )?;
         nodes[e.used] = Node::Also(at.root, e.root);
         at = Parsed {
             next: e.next,

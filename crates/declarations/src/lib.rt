@@ -5,58 +5,56 @@ pub mod bricks;
 pub mod locals;
 
 ghost use Rattle.std.specs.Prelude.{◌≡◌, ℕ, ◌+◌, ◌-◌, ◌*◌, ◌<◌, ◌≤◌, true, [], ◌∷◌, length, MatchResult, slice_index_or};
-ghost use Rattle.nodes.specs.Made.{Made, Way, Refused, FieldsWay, Shares, of_shared, NamesWay};
+ghost use Rattle.nodes.specs.Made.{Made, Way, Refused, FieldsWay, Shares, of_shared, NamesWay, Room, ReadsTo};
 ghost use Rattle.nodes.specs.Nodes.{IsExpr, IsMode, IsAmode, IsFields, IsValue, IsValues, IsEntry, IsMany, IsName, IsInit};
 ghost use Rattle.grammar.specs.Symbols.{Says, among, STOP, LEFT, COMMA, REF, ARRAY, PLUS, MINUS};
 ghost use Rattle.grammar.specs.Trees.{Expr, of_expr, Mode, Amode, of_mode, of_amode, Fields, Value, Values, Entry, of_fields, of_value, of_values, of_entry, Many, Init, of_init, of_inits, of_name, of_names};
-ghost use Rattle.grammar.specs.Machine.{each, all, a_mode, an_amode, the_fields, a_value, entries, declareds, unset, set as set_sort, stored, inblock};
-ghost use Rattle.declarations.specs.Declaring.{mode_firsts};
+ghost use Rattle.grammar.specs.Machine.{each, all, a_mode, an_amode, the_fields, a_value, entries, declareds, unset, set as set_sort, stored, inblock, Setting, Initial as InitialTree, of_initial};
+ghost use Rattle.declarations.specs.Declaring.{mode_firsts, IsInitial, goal_of};
+ghost use Rattle.std.proofs.Common.{rules};
+ghost use Rattle.nodes.specs.Lists.{names_list, stored_list, inblock_list, modes_list, described_list, storing_list};
+ghost use Rattle.nodes.proofs.Repeat.{declareds_begin};
 
 use expressions::expr;
 use grammar::Symbol;
-use nodes::{Fault, Node, Parsed, peek};
+use nodes::lists::{Entries, read_list};
+use nodes::{Fault, Node, Parsed, Spot};
 
 // The mode of an array's elements.
 #[cycle(modes)]
-pub fn amode(
-    s: &[Symbol],
-    i: usize,
-    depth: usize,
-    nodes: &mut [Node],
-    used: usize,
-) -> Result<Parsed, Fault>
-    requires within { i ≤ length s.now }
-    requires room { used + 2 * length s.now ≤ length nodes.old + 2 * i }
-    ensures { MatchResult result (λ p. Made 0 Amode IsAmode of_amode (Way (an_amode ∷ []) depth s.now i) s.now i used nodes.old nodes.new p) (λ f. Refused (an_amode ∷ []) depth s.now i f) }
+pub fn amode(from: Spot<'_>, nodes: &mut [Node]) -> Result<Parsed, Fault>
+    requires within { from.next ≤ length from.symbols.now }
+    requires room { Room 0 from nodes.old }
+    ensures { ReadsTo 0 Amode IsAmode of_amode (an_amode ∷ []) from.entry nodes.old nodes.new result }
 {
-    if peek(s, i) == Symbol::Name {
-        nodes[used] = Node::Records(i);
+    if from.peek(from.next) == Symbol::Name {
+        nodes[from.used] = Node::Records(from.next);
         return Ok(Parsed {
-            next: i + 1,
-            used: used + 1,
-            root: used,
+            next: from.next + 1,
+            used: from.used + 1,
+            root: from.used,
         });
     }
-    mode(s, i, depth, nodes, used)
+    mode(from, nodes)
 }
 
 // A mode that refers to an array, REF being at i, ARRAY behind it.
 #[cycle(modes)]
-fn array_mode(
-    s: &[Symbol],
-    i: usize,
-    depth: usize,
-    nodes: &mut [Node],
-    used: usize,
-) -> Result<Parsed, Fault>
-    requires refers { slice_index_or s.now i STOP ≡ REF }
-    requires array { slice_index_or s.now (i + 1) STOP ≡ ARRAY }
-    requires there { i + 1 < length s.now }
-    requires room { used + 2 * length s.now ≤ length nodes.old + 2 * i }
-    ensures { MatchResult result (λ p. Made 0 Mode IsMode of_mode (Way (a_mode ∷ []) depth s.now i) s.now i used nodes.old nodes.new p) (λ f. Refused (a_mode ∷ []) depth s.now i f) }
+fn array_mode(from: Spot<'_>, nodes: &mut [Node]) -> Result<Parsed, Fault>
+    requires refers { slice_index_or from.symbols.now from.next STOP ≡ REF }
+    requires array { slice_index_or from.symbols.now (from.next + 1) STOP ≡ ARRAY }
+    requires there { from.next + 1 < length from.symbols.now }
+    requires room { Room 0 from nodes.old }
+    ensures { ReadsTo 0 Mode IsMode of_mode (a_mode ∷ []) from.entry nodes.old nodes.new result }
 {
-    if peek(s, i + 2) != Symbol::Left {
-        let m = amode(s, i + 2, depth, nodes, used)?;
+    if from.peek(from.next + 2) != Symbol::Left {
+        let m = amode(
+            Spot {
+                next: from.next + 2,
+                ..from
+            },
+            nodes,
+        )?;
         nodes[m.used] = Node::RefArray(m.root);
         return Ok(Parsed {
             next: m.next,
@@ -64,14 +62,20 @@ fn array_mode(
             root: m.used,
         });
     }
-    if depth == 0 {
-        return Err(Fault::Deep(i + 2));
+    if from.depth == 0 {
+        return Err(Fault::Deep(from.next + 2));
     }
-    if peek(s, i + 3) != Symbol::Right {
-        return Err(Fault::Syntax(i + 3));
+    if from.peek(from.next + 3) != Symbol::Right {
+        return Err(Fault::Syntax(from.next + 3));
     }
-    let m = amode(s, i + 4, depth, nodes, used)?;
-    nodes[m.used] = Node::RefArrayBrackets(i + 2, m.root);
+    let m = amode(
+        Spot {
+            next: from.next + 4,
+            ..from
+        },
+        nodes,
+    )?;
+    nodes[m.used] = Node::RefArrayBrackets(from.next + 2, m.root);
     Ok(Parsed {
         next: m.next,
         used: m.used + 1,
@@ -81,79 +85,67 @@ fn array_mode(
 
 // A mode that begins with REF at i.
 #[cycle(modes)]
-fn reference(
-    s: &[Symbol],
-    i: usize,
-    depth: usize,
-    nodes: &mut [Node],
-    used: usize,
-) -> Result<Parsed, Fault>
-    requires refers { slice_index_or s.now i STOP ≡ REF }
-    requires there { i < length s.now }
-    requires room { used + 2 * length s.now ≤ length nodes.old + 2 * i }
-    ensures { MatchResult result (λ p. Made 0 Mode IsMode of_mode (Way (a_mode ∷ []) depth s.now i) s.now i used nodes.old nodes.new p) (λ f. Refused (a_mode ∷ []) depth s.now i f) }
+fn reference(from: Spot<'_>, nodes: &mut [Node]) -> Result<Parsed, Fault>
+    requires refers { slice_index_or from.symbols.now from.next STOP ≡ REF }
+    requires there { from.next < length from.symbols.now }
+    requires room { Room 0 from nodes.old }
+    ensures { ReadsTo 0 Mode IsMode of_mode (a_mode ∷ []) from.entry nodes.old nodes.new result }
 {
-    match peek(s, i + 1) {
+    match from.peek(from.next + 1) {
         Symbol::Int => {
-            nodes[used] = Node::RefInt;
+            nodes[from.used] = Node::RefInt;
             Ok(Parsed {
-                next: i + 2,
-                used: used + 1,
-                root: used,
+                next: from.next + 2,
+                used: from.used + 1,
+                root: from.used,
             })
         }
         Symbol::Byte => {
-            nodes[used] = Node::RefByte(i + 1);
+            nodes[from.used] = Node::RefByte(from.next + 1);
             Ok(Parsed {
-                next: i + 2,
-                used: used + 1,
-                root: used,
+                next: from.next + 2,
+                used: from.used + 1,
+                root: from.used,
             })
         }
         Symbol::Name => {
-            nodes[used] = Node::RefRecord(i + 1);
+            nodes[from.used] = Node::RefRecord(from.next + 1);
             Ok(Parsed {
-                next: i + 2,
-                used: used + 1,
-                root: used,
+                next: from.next + 2,
+                used: from.used + 1,
+                root: from.used,
             })
         }
-        Symbol::Array => array_mode(s, i, depth, nodes, used),
-        _ => Err(Fault::Syntax(i + 1)),
+        Symbol::Array => array_mode(from, nodes),
+        _ => Err(Fault::Syntax(from.next + 1)),
     }
 }
 
 #[cycle(modes)]
-pub fn mode(
-    s: &[Symbol],
-    i: usize,
-    depth: usize,
-    nodes: &mut [Node],
-    used: usize,
-) -> Result<Parsed, Fault>
-    requires within { i ≤ length s.now }
-    requires room { used + 2 * length s.now ≤ length nodes.old + 2 * i }
-    ensures { MatchResult result (λ p. Made 0 Mode IsMode of_mode (Way (a_mode ∷ []) depth s.now i) s.now i used nodes.old nodes.new p) (λ f. Refused (a_mode ∷ []) depth s.now i f) }
+pub fn mode(from: Spot<'_>, nodes: &mut [Node]) -> Result<Parsed, Fault>
+    requires within { from.next ≤ length from.symbols.now }
+    requires room { Room 0 from nodes.old }
+    ensures { ReadsTo 0 Mode IsMode of_mode (a_mode ∷ []) from.entry nodes.old nodes.new result }
 {
-    match peek(s, i) {
+    match from.peek(from.next) {
         Symbol::Int => {
-            nodes[used] = Node::Int;
+            nodes[from.used] = Node::Int;
             Ok(Parsed {
-                next: i + 1,
-                used: used + 1,
-                root: used,
+                next: from.next + 1,
+                used: from.used + 1,
+                root: from.used,
             })
         }
         Symbol::Byte => {
-            nodes[used] = Node::Byte(i);
+            nodes[from.used] = Node::Byte(from.next);
             Ok(Parsed {
-                next: i + 1,
-                used: used + 1,
-                root: used,
+                next: from.next + 1,
+                used: from.used + 1,
+                root: from.used,
             })
         }
-        Symbol::Ref => reference(s, i, depth, nodes, used),
-        _ => Err(Fault::Syntax(i)),
+        Symbol::Ref => reference(from, nodes),
+        _ => Err(Fault::Syntax(from.next)),
     }
 }
 
@@ -168,21 +160,14 @@ pub fn begins_mode(c: Symbol) -> bool
 }
 
 // One more component or parameter, a comma being at the end of `at`.
-fn further(
-    s: &[Symbol],
-    i: usize,
-    depth: usize,
-    nodes: &mut [Node],
-    used: usize,
-    at: Parsed,
-) -> Result<Parsed, Fault>
-    requires comma { slice_index_or s.now at.next STOP ≡ COMMA }
-    requires there { at.next < length s.now }
-    requires room { used + 2 * length s.now ≤ length nodes.old + 2 * i }
-    requires begun { Made 0 Fields IsFields of_fields (FieldsWay depth s.now i) s.now i used nodes.old nodes.old at }
-    ensures { MatchResult result (λ p. Made 0 Fields IsFields of_fields (FieldsWay depth s.now i) s.now i used nodes.old nodes.new p × (at.next < p.next)) (λ f. Refused (the_fields ∷ []) depth s.now i f) }
+fn further(from: Spot<'_>, nodes: &mut [Node], at: Parsed) -> Result<Parsed, Fault>
+    requires comma { slice_index_or from.symbols.now at.next STOP ≡ COMMA }
+    requires there { at.next < length from.symbols.now }
+    requires room { Room 0 from nodes.old }
+    requires begun { Made 0 Fields IsFields of_fields (FieldsWay from.depth from.symbols.now from.next) from.symbols.now from.next from.used nodes.old nodes.old at }
+    ensures { MatchResult result (λ p. Made 0 Fields IsFields of_fields (FieldsWay from.entry.depth from.entry.symbols.now from.entry.next) from.entry.symbols.now from.entry.next from.entry.used nodes.old nodes.new p × (at.next < p.next)) (λ f. Refused (the_fields ∷ []) from.entry.depth from.entry.symbols.now from.entry.next f) }
 {
-    if peek(s, at.next + 1) == Symbol::Name {
+    if from.peek(at.next + 1) == Symbol::Name {
         nodes[at.used] = Node::AlsoField(at.root, at.next + 1);
         return Ok(Parsed {
             next: at.next + 2,
@@ -190,8 +175,15 @@ fn further(
             root: at.used,
         });
     }
-    let m = mode(s, at.next + 1, depth, nodes, at.used)?;
-    if peek(s, m.next) != Symbol::Name {
+    let m = mode(
+        Spot {
+            next: at.next + 1,
+            used: at.used,
+            ..from
+        },
+        nodes,
+    )?;
+    if from.peek(m.next) != Symbol::Name {
         return Err(Fault::Syntax(m.next));
     }
     nodes[m.used] = Node::NextField(at.root, m.root, m.next);
@@ -203,19 +195,13 @@ fn further(
 }
 
 // The components of a record mode, or the parameters of a procedure.
-pub fn fields(
-    s: &[Symbol],
-    i: usize,
-    depth: usize,
-    nodes: &mut [Node],
-    used: usize,
-) -> Result<Parsed, Fault>
-    requires within { i ≤ length s.now }
-    requires room { used + 2 * length s.now ≤ length nodes.old + 2 * i }
-    ensures { MatchResult result (λ p. Made 0 Fields IsFields of_fields (Way (the_fields ∷ []) depth s.now i) s.now i used nodes.old nodes.new p) (λ f. Refused (the_fields ∷ []) depth s.now i f) }
+pub fn fields(from: Spot<'_>, nodes: &mut [Node]) -> Result<Parsed, Fault>
+    requires within { from.next ≤ length from.symbols.now }
+    requires room { Room 0 from nodes.old }
+    ensures { ReadsTo 0 Fields IsFields of_fields (the_fields ∷ []) from.entry nodes.old nodes.new result }
 {
-    let m = mode(s, i, depth, nodes, used)?;
-    if peek(s, m.next) != Symbol::Name {
+    let m = mode(from, nodes)?;
+    if from.peek(m.next) != Symbol::Name {
         return Err(Fault::Syntax(m.next));
     }
     nodes[m.used] = Node::Field(m.root, m.next);
@@ -224,70 +210,65 @@ pub fn fields(
         used: m.used + 1,
         root: m.used,
     };
-    while peek(s, at.next) == Symbol::Comma {
-        at = further(s, i, depth, nodes, used, at)?;
+    while from.peek(at.next) == Symbol::Comma {
+        at = further(from, nodes, at)?;
     }
     Ok(at)
 }
 
 // An initial value with its sign at i.
-fn signed(
-    s: &[Symbol],
-    i: usize,
-    depth: usize,
-    nodes: &mut [Node],
-    used: usize,
-) -> Result<Parsed, Fault>
-    requires sign { among (PLUS ∷ MINUS ∷ []) (slice_index_or s.now i STOP) ≡ true }
-    requires there { i < length s.now }
-    requires room { used + 2 * length s.now ≤ length nodes.old + 2 * i }
-    ensures { MatchResult result (λ p. Made 0 Value IsValue of_value (Way (a_value ∷ []) depth s.now i) s.now i used nodes.old nodes.new p) (λ f. Refused (a_value ∷ []) depth s.now i f) }
+fn signed(from: Spot<'_>, nodes: &mut [Node]) -> Result<Parsed, Fault>
+    requires sign { among (PLUS ∷ MINUS ∷ []) (slice_index_or from.symbols.now from.next STOP) ≡ true }
+    requires there { from.next < length from.symbols.now }
+    requires room { Room 0 from nodes.old }
+    ensures { ReadsTo 0 Value IsValue of_value (a_value ∷ []) from.entry nodes.old nodes.new result }
 {
-    if peek(s, i + 1) != Symbol::Integer {
-        return Err(Fault::Syntax(i + 1));
+    if from.peek(from.next + 1) != Symbol::Integer {
+        return Err(Fault::Syntax(from.next + 1));
     }
-    nodes[used] = if peek(s, i) == Symbol::Plus {
-        Node::Signed(i, i + 1)
+    nodes[from.used] = if from.peek(from.next) == Symbol::Plus {
+        Node::Signed(from.next, from.next + 1)
     } else {
-        Node::MinusSigned(i, i + 1)
+        Node::MinusSigned(from.next, from.next + 1)
     };
     Ok(Parsed {
-        next: i + 2,
-        used: used + 1,
-        root: used,
+        next: from.next + 2,
+        used: from.used + 1,
+        root: from.used,
     })
 }
 
 // A list of initial values, its bracket being at i.
 #[cycle(initials)]
-fn list(
-    s: &[Symbol],
-    i: usize,
-    depth: usize,
-    nodes: &mut [Node],
-    used: usize,
-) -> Result<Parsed, Fault>
-    requires opening { slice_index_or s.now i STOP ≡ LEFT }
-    requires there { i < length s.now }
-    requires room { used + 2 * length s.now ≤ length nodes.old + 2 * i }
-    ensures { MatchResult result (λ p. Made 0 Value IsValue of_value (Way (a_value ∷ []) depth s.now i) s.now i used nodes.old nodes.new p) (λ f. Refused (a_value ∷ []) depth s.now i f) }
+fn list(from: Spot<'_>, nodes: &mut [Node]) -> Result<Parsed, Fault>
+    requires opening { slice_index_or from.symbols.now from.next STOP ≡ LEFT }
+    requires there { from.next < length from.symbols.now }
+    requires room { Room 0 from nodes.old }
+    ensures { ReadsTo 0 Value IsValue of_value (a_value ∷ []) from.entry nodes.old nodes.new result }
 {
-    if depth == 0 {
-        return Err(Fault::Deep(i));
+    if from.depth == 0 {
+        return Err(Fault::Deep(from.next));
     }
-    if peek(s, i + 1) == Symbol::Right {
-        nodes[used] = Node::EmptyList(i);
+    if from.peek(from.next + 1) == Symbol::Right {
+        nodes[from.used] = Node::EmptyList(from.next);
         return Ok(Parsed {
-            next: i + 2,
-            used: used + 1,
-            root: used,
+            next: from.next + 2,
+            used: from.used + 1,
+            root: from.used,
         });
     }
-    let v = values(s, i + 1, depth - 1, nodes, used)?;
-    if peek(s, v.next) != Symbol::Right {
+    let v = values(
+        Spot {
+            next: from.next + 1,
+            depth: from.depth - 1,
+            ..from
+        },
+        nodes,
+    )?;
+    if from.peek(v.next) != Symbol::Right {
         return Err(Fault::Syntax(v.next));
     }
-    nodes[v.used] = Node::List(i, v.root);
+    nodes[v.used] = Node::List(from.next, v.root);
     Ok(Parsed {
         next: v.next + 1,
         used: v.used + 1,
@@ -297,72 +278,60 @@ fn list(
 
 // An initial value in a data brick.
 #[cycle(initials)]
-fn value(
-    s: &[Symbol],
-    i: usize,
-    depth: usize,
-    nodes: &mut [Node],
-    used: usize,
-) -> Result<Parsed, Fault>
-    requires within { i ≤ length s.now }
-    requires room { used + 2 * length s.now ≤ length nodes.old + 2 * i }
-    ensures { MatchResult result (λ p. Made 0 Value IsValue of_value (Way (a_value ∷ []) depth s.now i) s.now i used nodes.old nodes.new p) (λ f. Refused (a_value ∷ []) depth s.now i f) }
+fn value(from: Spot<'_>, nodes: &mut [Node]) -> Result<Parsed, Fault>
+    requires within { from.next ≤ length from.symbols.now }
+    requires room { Room 0 from nodes.old }
+    ensures { ReadsTo 0 Value IsValue of_value (a_value ∷ []) from.entry nodes.old nodes.new result }
 {
-    match peek(s, i) {
+    match from.peek(from.next) {
         Symbol::Integer => {
-            nodes[used] = Node::Constant(i);
+            nodes[from.used] = Node::Constant(from.next);
             Ok(Parsed {
-                next: i + 1,
-                used: used + 1,
-                root: used,
+                next: from.next + 1,
+                used: from.used + 1,
+                root: from.used,
             })
         }
         Symbol::Name => {
-            nodes[used] = Node::Identifier(i);
+            nodes[from.used] = Node::Identifier(from.next);
             Ok(Parsed {
-                next: i + 1,
-                used: used + 1,
-                root: used,
+                next: from.next + 1,
+                used: from.used + 1,
+                root: from.used,
             })
         }
         Symbol::Text => {
-            nodes[used] = Node::Literal(i);
+            nodes[from.used] = Node::Literal(from.next);
             Ok(Parsed {
-                next: i + 1,
-                used: used + 1,
-                root: used,
+                next: from.next + 1,
+                used: from.used + 1,
+                root: from.used,
             })
         }
-        Symbol::Plus | Symbol::Minus => signed(s, i, depth, nodes, used),
-        Symbol::Left => list(s, i, depth, nodes, used),
-        _ => Err(Fault::Syntax(i)),
+        Symbol::Plus | Symbol::Minus => signed(from, nodes),
+        Symbol::Left => list(from, nodes),
+        _ => Err(Fault::Syntax(from.next)),
     }
 }
 
 // A value of a list, and how often it stands.
 #[cycle(initials)]
-fn entry(
-    s: &[Symbol],
-    i: usize,
-    depth: usize,
-    nodes: &mut [Node],
-    used: usize,
-) -> Result<Parsed, Fault>
-    requires within { i ≤ length s.now }
-    requires room { used + 2 * length s.now ≤ length nodes.old + 2 * i }
-    ensures { MatchResult result (λ p. Made 0 Entry IsEntry of_entry (Way (each entries ∷ []) depth s.now i) s.now i used nodes.old nodes.new p) (λ f. Refused (each entries ∷ []) depth s.now i f) }
+fn entry(from: Spot<'_>, nodes: &mut [Node]) -> Result<Parsed, Fault>
+    requires within { from.next ≤ length from.symbols.now }
+    requires room { Room 0 from nodes.old }
+    ensures { ReadsTo 0 Entry IsEntry of_entry (each entries ∷ []) from.entry nodes.old nodes.new result }
 {
-    let v = value(s, i, depth, nodes, used)?;
-    if peek(s, v.next) != Symbol::Left {
+    let v = value(from, nodes)?;
+    if from.peek(v.next) != Symbol::Left {
         return Ok(v);
     }
-    if depth == 0 {
+    if from.depth == 0 {
         return Err(Fault::Deep(v.next));
     }
-    if peek(s, v.next + 1) != Symbol::Integer {
+    if from.peek(v.next + 1) != Symbol::Integer {
         return Err(Fault::Syntax(v.next + 1));
     }
-    if peek(s, v.next + 2) != Symbol::Right {
+    if from.peek(v.next + 2) != Symbol::Right {
         return Err(Fault::Syntax(v.next + 2));
     }
     nodes[v.used] = Node::Repeated(v.root, v.next, v.next + 1);
@@ -373,21 +342,23 @@ fn entry(
     })
 }
 
+// Values of a list, separated by commas. (Not `read_list`: tried, and a cycle through a trait leaves its proof to be written by hand.)
 #[cycle(initials)]
-fn values(
-    s: &[Symbol],
-    i: usize,
-    depth: usize,
-    nodes: &mut [Node],
-    used: usize,
-) -> Result<Parsed, Fault>
-    requires within { i ≤ length s.now }
-    requires room { used + 2 * length s.now ≤ length nodes.old + 2 * i }
-    ensures { MatchResult result (λ p. Made 0 Values IsValues of_values (Way (all entries ∷ []) depth s.now i) s.now i used nodes.old nodes.new p) (λ f. Refused (all entries ∷ []) depth s.now i f) }
+fn values(from: Spot<'_>, nodes: &mut [Node]) -> Result<Parsed, Fault>
+    requires within { from.next ≤ length from.symbols.now }
+    requires room { Room 0 from nodes.old }
+    ensures { ReadsTo 0 Values IsValues of_values (all entries ∷ []) from.entry nodes.old nodes.new result }
 {
-    let mut at = entry(s, i, depth, nodes, used)?;
-    while peek(s, at.next) == Symbol::Comma {
-        let e = entry(s, at.next + 1, depth, nodes, at.used)?;
+    let mut at = entry(from, nodes)?;
+    while from.peek(at.next) == Symbol::Comma {
+        let e = entry(
+            Spot {
+                next: at.next + 1,
+                used: at.used,
+                ..from
+            },
+            nodes,
+        )?;
         nodes[e.used] = Node::Also(at.root, e.root);
         at = Parsed {
             next: e.next,
@@ -399,25 +370,25 @@ fn values(
 }
 
 // Whether a name that shares an initial value is at i.
-fn shares(s: &[Symbol], i: usize) -> bool
-    ensures { Says result (Shares s.now i) }
+fn shares(from: Spot<'_>, i: usize) -> bool
+    ensures { Says result (Shares from.entry.symbols.now i) }
 {
-    peek(s, i) == Symbol::Name && peek(s, i + 1) == Symbol::Becomes
+    from.peek(i) == Symbol::Name && from.peek(i + 1) == Symbol::Becomes
 }
 
-// The names that share an initial value, the first being at i.
-fn shared(s: &[Symbol], i: usize, nodes: &mut [Node], used: usize) -> Parsed
-    requires first { Shares s.now i }
-    requires room { used + 2 * length s.now ≤ length nodes.old + 2 * i }
-    ensures { Made 0 (Many ℕ) (IsMany IsName) of_shared (NamesWay s.now i) s.now i used nodes.old nodes.new result × (Shares s.now result.next → ⊥) × (result.used + 2 * i < 2 * result.next + used) }
+// The names that share an initial value, the first being there.
+fn shared(from: Spot<'_>, nodes: &mut [Node]) -> Parsed
+    requires first { Shares from.symbols.now from.next }
+    requires room { Room 0 from nodes.old }
+    ensures { Made 0 (Many ℕ) (IsMany IsName) of_shared (NamesWay from.entry.symbols.now from.entry.next) from.entry.symbols.now from.entry.next from.entry.used nodes.old nodes.new result × (Shares from.entry.symbols.now result.next → ⊥) × (result.used + 2 * from.entry.next < 2 * result.next + from.entry.used) }
 {
-    nodes[used] = Node::Name(i);
+    nodes[from.used] = Node::Name(from.next);
     let mut at = Parsed {
-        next: i + 2,
-        used: used + 1,
-        root: used,
+        next: from.next + 2,
+        used: from.used + 1,
+        root: from.used,
     };
-    while shares(s, at.next) {
+    while shares(from, at.next) {
         nodes[at.used] = Node::Name(at.next);
         nodes[at.used + 1] = Node::Also(at.root, at.used);
         at = Parsed {
@@ -429,64 +400,66 @@ fn shared(s: &[Symbol], i: usize, nodes: &mut [Node], used: usize) -> Parsed
     at
 }
 
-// A name that a data brick declares, with its initial value.
-fn stored_init(
-    s: &[Symbol],
-    i: usize,
-    depth: usize,
-    nodes: &mut [Node],
-    used: usize,
-) -> Result<Parsed, Fault>
-    requires within { i ≤ length s.now }
-    requires room { used + 2 * length s.now ≤ length nodes.old + 2 * i }
-    ensures { MatchResult result (λ p. Made 0 (Init Value) (IsInit IsValue) (of_init of_value) (Way (each (declareds (set_sort stored)) ∷ []) depth s.now i) s.now i used nodes.old nodes.new p) (λ f. Refused (each (declareds (set_sort stored)) ∷ []) depth s.now i f) }
-{
-    if peek(s, i) != Symbol::Name {
-        return Err(Fault::Syntax(i));
-    }
-    if peek(s, i + 1) != Symbol::Becomes {
-        nodes[used] = Node::Plain(i);
-        return Ok(Parsed {
-            next: i + 1,
-            used: used + 1,
-            root: used,
-        });
-    }
-    let n = shared(s, i, nodes, used);
-    let v = value(s, n.next, depth, nodes, n.used)?;
-    nodes[v.used] = Node::Given(n.root, v.root);
-    Ok(Parsed {
-        next: v.next,
-        used: v.used + 1,
-        root: v.used,
-    })
+/// What may stand behind `:=` where a name is declared.
+trait Initial: Copy {
+    // where it stands
+    ghost setting: { Setting };
+
+    /// Reads an initial value.
+    fn value(self, from: Spot<'_>, nodes: &mut [Node]) -> Result<Parsed, Fault>
+        requires within { from.next ≤ length from.symbols.now }
+        requires room { Room 0 from nodes.old }
+        ensures { ReadsTo 0 (InitialTree setting) (IsInitial setting) (of_initial setting) (goal_of setting ∷ []) from.entry nodes.old nodes.new result };
 }
 
-// A local, with its initial value.
-fn local_init(
-    s: &[Symbol],
-    i: usize,
-    depth: usize,
-    nodes: &mut [Node],
-    used: usize,
-) -> Result<Parsed, Fault>
-    requires within { i ≤ length s.now }
-    requires room { used + 2 * length s.now ≤ length nodes.old + 2 * i }
-    ensures { MatchResult result (λ p. Made 0 (Init (Expr 5)) (IsInit IsExpr) (of_init of_expr) (Way (each (declareds (set_sort inblock)) ∷ []) depth s.now i) s.now i used nodes.old nodes.new p) (λ f. Refused (each (declareds (set_sort inblock)) ∷ []) depth s.now i f) }
-{
-    if peek(s, i) != Symbol::Name {
-        return Err(Fault::Syntax(i));
+/// An initial value in a data brick.
+#[derive(Clone, Copy)]
+struct Stored;
+
+impl Initial for Stored {
+    ghost setting = { stored };
+
+    fn value(self, from: Spot<'_>, nodes: &mut [Node]) -> Result<Parsed, Fault> {
+        value(from, nodes)
     }
-    if peek(s, i + 1) != Symbol::Becomes {
-        nodes[used] = Node::Plain(i);
+}
+
+/// An initial value of a local.
+#[derive(Clone, Copy)]
+struct InBlock;
+
+impl Initial for InBlock {
+    ghost setting = { inblock };
+
+    fn value(self, from: Spot<'_>, nodes: &mut [Node]) -> Result<Parsed, Fault> {
+        expr(from, nodes)
+    }
+}
+
+/// A declared name, with its initial value.
+fn declared<V: Initial>(of: V, from: Spot<'_>, nodes: &mut [Node]) -> Result<Parsed, Fault>
+    requires within { from.next ≤ length from.symbols.now }
+    requires room { Room 0 from nodes.old }
+    ensures { ReadsTo 0 (Init (InitialTree V.setting)) (IsInit (IsInitial V.setting)) (of_init (of_initial V.setting)) (each (declareds (set_sort V.setting)) ∷ []) from.entry nodes.old nodes.new result }
+{
+    if from.peek(from.next) != Symbol::Name {
+        return Err(Fault::Syntax(from.next));
+    }
+    if from.peek(from.next + 1) != Symbol::Becomes {
+        nodes[from.used] = Node::Plain(from.next);
         return Ok(Parsed {
-            next: i + 1,
-            used: used + 1,
-            root: used,
+            next: from.next + 1,
+            used: from.used + 1,
+            root: from.used,
         });
     }
-    let n = shared(s, i, nodes, used);
-    let v = expr(s, n.next, depth, nodes, n.used)?;
+    let n = shared(from, nodes);
+    let behind = Spot {
+        next: n.next,
+        used: n.used,
+        ..from
+    };
+    let v = of.value(behind, nodes)?;
     nodes[v.used] = Node::Given(n.root, v.root);
     Ok(Parsed {
         next: v.next,
@@ -496,96 +469,114 @@ fn local_init(
 }
 
 // A name that is described or declared without a value.
-fn bare_name(
-    s: &[Symbol],
-    i: usize,
-    depth: usize,
-    nodes: &mut [Node],
-    used: usize,
-) -> Result<Parsed, Fault>
-    requires within { i ≤ length s.now }
-    requires room { used + 2 * length s.now ≤ length nodes.old + 2 * i }
-    ensures { MatchResult result (λ p. Made 0 ℕ IsName of_name (Way (each (declareds unset) ∷ []) depth s.now i) s.now i used nodes.old nodes.new p) (λ f. Refused (each (declareds unset) ∷ []) depth s.now i f) }
+fn bare_name(from: Spot<'_>, nodes: &mut [Node]) -> Result<Parsed, Fault>
+    requires within { from.next ≤ length from.symbols.now }
+    requires room { Room 0 from nodes.old }
+    ensures { ReadsTo 0 ℕ IsName of_name (each (declareds unset) ∷ []) from.entry nodes.old nodes.new result }
 {
-    if peek(s, i) != Symbol::Name {
-        return Err(Fault::Syntax(i));
+    if from.peek(from.next) != Symbol::Name {
+        return Err(Fault::Syntax(from.next));
     }
-    nodes[used] = Node::Name(i);
+    nodes[from.used] = Node::Name(from.next);
     Ok(Parsed {
-        next: i + 1,
-        used: used + 1,
-        root: used,
+        next: from.next + 1,
+        used: from.used + 1,
+        root: from.used,
     })
 }
 
-pub fn names(
-    s: &[Symbol],
-    i: usize,
-    depth: usize,
-    nodes: &mut [Node],
-    used: usize,
-) -> Result<Parsed, Fault>
-    requires within { i ≤ length s.now }
-    requires room { used + 2 * length s.now ≤ length nodes.old + 2 * i }
-    ensures { MatchResult result (λ p. Made 0 (Many ℕ) (IsMany IsName) of_names (Way (all (declareds unset) ∷ []) depth s.now i) s.now i used nodes.old nodes.new p) (λ f. Refused (all (declareds unset) ∷ []) depth s.now i f) }
-{
-    let mut at = bare_name(s, i, depth, nodes, used)?;
-    while peek(s, at.next) == Symbol::Comma {
-        let e = bare_name(s, at.next + 1, depth, nodes, at.used)?;
-        nodes[e.used] = Node::Also(at.root, e.root);
-        at = Parsed {
-            next: e.next,
-            used: e.used + 1,
-            root: e.used,
-        };
+/// Names with commas between them.
+#[derive(Clone, Copy)]
+struct NameList;
+
+impl Entries for NameList {
+    ghost kind = { λ a. names_list };
+
+    ghost slack = { 0 };
+
+    ghost goal = { λ a. all (declareds unset) };
+
+    fn separator(self) -> Symbol {
+        Symbol::Comma
     }
-    Ok(at)
+
+    fn entry(self, from: Spot<'_>, nodes: &mut [Node]) -> Result<Parsed, Fault> {
+        bare_name(from, nodes)
+    }
+
+    ghost small = { Prim.search rules };
+
+    ghost begins = { λ a. declareds_begin unset };
 }
 
-pub fn stored_inits(
-    s: &[Symbol],
-    i: usize,
-    depth: usize,
-    nodes: &mut [Node],
-    used: usize,
-) -> Result<Parsed, Fault>
-    requires within { i ≤ length s.now }
-    requires room { used + 2 * length s.now ≤ length nodes.old + 2 * i }
-    ensures { MatchResult result (λ p. Made 0 (Many (Init Value)) (IsMany (IsInit IsValue)) (of_inits of_value) (Way (all (declareds (set_sort stored)) ∷ []) depth s.now i) s.now i used nodes.old nodes.new p) (λ f. Refused (all (declareds (set_sort stored)) ∷ []) depth s.now i f) }
+pub fn names(from: Spot<'_>, nodes: &mut [Node]) -> Result<Parsed, Fault>
+    requires within { from.next ≤ length from.symbols.now }
+    requires room { Room 0 from nodes.old }
+    ensures { ReadsTo 0 (Many ℕ) (IsMany IsName) of_names (all (declareds unset) ∷ []) from.entry nodes.old nodes.new result }
 {
-    let mut at = stored_init(s, i, depth, nodes, used)?;
-    while peek(s, at.next) == Symbol::Comma {
-        let e = stored_init(s, at.next + 1, depth, nodes, at.used)?;
-        nodes[e.used] = Node::Also(at.root, e.root);
-        at = Parsed {
-            next: e.next,
-            used: e.used + 1,
-            root: e.used,
-        };
-    }
-    Ok(at)
+    read_list(NameList, from, nodes)
 }
 
-pub fn local_inits(
-    s: &[Symbol],
-    i: usize,
-    depth: usize,
-    nodes: &mut [Node],
-    used: usize,
-) -> Result<Parsed, Fault>
-    requires within { i ≤ length s.now }
-    requires room { used + 2 * length s.now ≤ length nodes.old + 2 * i }
-    ensures { MatchResult result (λ p. Made 0 (Many (Init (Expr 5))) (IsMany (IsInit IsExpr)) (of_inits of_expr) (Way (all (declareds (set_sort inblock)) ∷ []) depth s.now i) s.now i used nodes.old nodes.new p) (λ f. Refused (all (declareds (set_sort inblock)) ∷ []) depth s.now i f) }
-{
-    let mut at = local_init(s, i, depth, nodes, used)?;
-    while peek(s, at.next) == Symbol::Comma {
-        let e = local_init(s, at.next + 1, depth, nodes, at.used)?;
-        nodes[e.used] = Node::Also(at.root, e.root);
-        at = Parsed {
-            next: e.next,
-            used: e.used + 1,
-            root: e.used,
-        };
+/// The names of a data brick with commas between them.
+#[derive(Clone, Copy)]
+struct StoredList;
+
+impl Entries for StoredList {
+    ghost kind = { λ a. stored_list };
+
+    ghost slack = { 0 };
+
+    ghost goal = { λ a. all (declareds (set_sort stored)) };
+
+    fn separator(self) -> Symbol {
+        Symbol::Comma
     }
-    Ok(at)
+
+    fn entry(self, from: Spot<'_>, nodes: &mut [Node]) -> Result<Parsed, Fault> {
+        declared(Stored, from, nodes)
+    }
+
+    ghost small = { Prim.search rules };
+
+    ghost begins = { λ a. declareds_begin (set_sort stored) };
+}
+
+pub fn stored_inits(from: Spot<'_>, nodes: &mut [Node]) -> Result<Parsed, Fault>
+    requires within { from.next ≤ length from.symbols.now }
+    requires room { Room 0 from nodes.old }
+    ensures { ReadsTo 0 (Many (Init Value)) (IsMany (IsInit IsValue)) (of_inits of_value) (all (declareds (set_sort stored)) ∷ []) from.entry nodes.old nodes.new result }
+{
+    read_list(StoredList, from, nodes)
+}
+
+/// Locals with commas between them.
+#[derive(Clone, Copy)]
+struct LocalList;
+
+impl Entries for LocalList {
+    ghost kind = { λ a. inblock_list };
+
+    ghost slack = { 0 };
+
+    ghost goal = { λ a. all (declareds (set_sort inblock)) };
+
+    fn separator(self) -> Symbol {
+        Symbol::Comma
+    }
+
+    fn entry(self, from: Spot<'_>, nodes: &mut [Node]) -> Result<Parsed, Fault> {
+        declared(InBlock, from, nodes)
+    }
+
+    ghost small = { Prim.search rules };
+
+    ghost begins = { λ a. declareds_begin (set_sort inblock) };
+}
+
+pub fn local_inits(from: Spot<'_>, nodes: &mut [Node]) -> Result<Parsed, Fault>
+    requires within { from.next ≤ length from.symbols.now }
+    requires room { Room 0 from nodes.old }
+    ensures { ReadsTo 0 (Many (Init (Expr 5))) (IsMany (IsInit IsExpr)) (of_inits of_expr) (all (declareds (set_sort inblock)) ∷ []) from.entry nodes.old nodes.new result }
+{
+    read_list(LocalList, from, nodes)
 }

@@ -2,14 +2,18 @@
 #![tactic(auto)]
 
 ghost use Rattle.std.specs.Prelude.{◌≡◌, ◌+◌, ◌-◌, ◌*◌, ◌<◌, ◌≤◌, [], ◌∷◌, length, MatchResult, slice_index_or};
-ghost use Rattle.nodes.specs.Made.{Made, Way, Refused, LevelWay, LevelRefused, FormWay, FormRefused, Opening, PartsWay, VariableWay, VariableRefused, Counted, ArgsWay, rank as rank_of, monadics, comparators};
+ghost use Rattle.nodes.specs.Made.{Made, Way, Refused, LevelWay, LevelRefused, FormWay, FormRefused, Opening, PartsWay, VariableWay, VariableRefused, Counted, ArgsWay, rank as rank_of, monadics, comparators, Room, ReadsTo};
 ghost use Rattle.nodes.specs.Nodes.{IsExpr, IsExprs, IsPrimary, IsTerm, IsVariable, IsComparison, IsSubcondition, IsCondition};
 ghost use Rattle.grammar.specs.Symbols.{among, STOP, LEFT, RIGHT, NAME};
 ghost use Rattle.grammar.specs.Trees.{Expr, Exprs, Primary, Term, Variable, token, key, of_expr, of_exprs, of_primary, of_term, of_variable, Comparison, Subcondition, Condition, of_comparison, of_subcondition, of_condition};
 ghost use Rattle.grammar.specs.Machine.{an_expr, a_primary, a_term, tok, each, all, ands, ors};
+ghost use Rattle.std.proofs.Common.{rules};
+ghost use Rattle.nodes.specs.Lists.{ands_list, ors_list};
+ghost use Rattle.nodes.proofs.Repeat.{ors_begin, conditions_begin};
 
 use grammar::Symbol;
-use nodes::{Fault, Node, Parsed, peek};
+use nodes::lists::{Entries, read_list};
+use nodes::{Fault, Node, Parsed, Spot};
 
 // How loosely an operator binds; 5 for any other terminal.
 fn rank(c: Symbol) -> usize
@@ -37,23 +41,24 @@ fn monadic(c: Symbol) -> bool
 
 // '(' expr ')', the bracket being at i
 #[cycle(expressions)]
-pub fn bracketed(
-    s: &[Symbol],
-    i: usize,
-    depth: usize,
-    nodes: &mut [Node],
-    used: usize,
-) -> Result<Parsed, Fault>
-    requires opening { slice_index_or s.now i STOP ≡ LEFT }
-    requires within { i < length s.now }
-    requires room { used + 2 * length s.now ≤ length nodes.old + 2 * i }
-    ensures { MatchResult result (λ p. Made 0 (Expr 5) IsExpr (λ e rest. token LEFT i ∷ of_expr e (key RIGHT ∷ rest)) (Way (tok LEFT ∷ an_expr ∷ tok RIGHT ∷ []) depth s.now i) s.now i used nodes.old nodes.new p × (p.used + 2 * i < 2 * p.next + used)) (λ f. Refused (tok LEFT ∷ an_expr ∷ tok RIGHT ∷ []) depth s.now i f) }
+pub fn bracketed(from: Spot<'_>, nodes: &mut [Node]) -> Result<Parsed, Fault>
+    requires opening { slice_index_or from.symbols.now from.next STOP ≡ LEFT }
+    requires within { from.next < length from.symbols.now }
+    requires room { Room 0 from nodes.old }
+    ensures { MatchResult result (λ p. Made 0 (Expr 5) IsExpr (λ e rest. token LEFT from.entry.next ∷ of_expr e (key RIGHT ∷ rest)) (Way (tok LEFT ∷ an_expr ∷ tok RIGHT ∷ []) from.entry.depth from.entry.symbols.now from.entry.next) from.entry.symbols.now from.entry.next from.entry.used nodes.old nodes.new p × (p.used + 2 * from.entry.next < 2 * p.next + from.entry.used)) (λ f. Refused (tok LEFT ∷ an_expr ∷ tok RIGHT ∷ []) from.entry.depth from.entry.symbols.now from.entry.next f) }
 {
-    if depth == 0 {
-        return Err(Fault::Deep(i));
+    if from.depth == 0 {
+        return Err(Fault::Deep(from.next));
     }
-    let e = expr(s, i + 1, depth - 1, nodes, used)?;
-    if peek(s, e.next) == Symbol::Right {
+    let e = expr(
+        Spot {
+            next: from.next + 1,
+            depth: from.depth - 1,
+            ..from
+        },
+        nodes,
+    )?;
+    if from.peek(e.next) == Symbol::Right {
         Ok(Parsed {
             next: e.next + 1,
             used: e.used,
@@ -66,23 +71,23 @@ pub fn bracketed(
 
 // The further parts of a variable whose name is at i, and which was read up to `start`.
 #[cycle(expressions)]
-pub fn variable(
-    s: &[Symbol],
-    i: usize,
-    depth: usize,
-    nodes: &mut [Node],
-    used: usize,
-    start: Parsed,
-) -> Result<Parsed, Fault>
-    requires room { used + 2 * length s.now ≤ length nodes.old + 2 * i }
-    requires counted { Counted s.now i used start }
-    ensures { (b : Opening) → Made 0 Variable IsVariable of_variable (PartsWay b depth s.now i) s.now i used nodes.old nodes.old start → MatchResult result (λ p. Made 0 Variable IsVariable of_variable (VariableWay b depth s.now i) s.now i used nodes.old nodes.new p) (λ f. VariableRefused b depth s.now i f) }
+pub fn variable(from: Spot<'_>, nodes: &mut [Node], start: Parsed) -> Result<Parsed, Fault>
+    requires room { Room 0 from nodes.old }
+    requires counted { Counted from.symbols.now from.next from.used start }
+    ensures { (b : Opening) → Made 0 Variable IsVariable of_variable (PartsWay b from.entry.depth from.entry.symbols.now from.entry.next) from.entry.symbols.now from.entry.next from.entry.used nodes.old nodes.old start → MatchResult result (λ p. Made 0 Variable IsVariable of_variable (VariableWay b from.entry.depth from.entry.symbols.now from.entry.next) from.entry.symbols.now from.entry.next from.entry.used nodes.old nodes.new p) (λ f. VariableRefused b from.entry.depth from.entry.symbols.now from.entry.next f) }
 {
     let mut at = start;
     loop {
-        match peek(s, at.next) {
+        match from.peek(at.next) {
             Symbol::Left => {
-                let e = bracketed(s, at.next, depth, nodes, at.used)?;
+                let e = bracketed(
+                    Spot {
+                        next: at.next,
+                        used: at.used,
+                        ..from
+                    },
+                    nodes,
+                )?;
                 nodes[e.used] = Node::Element(at.root, at.next, e.root);
                 at = Parsed {
                     next: e.next,
@@ -91,7 +96,7 @@ pub fn variable(
                 };
             }
             Symbol::Dot => {
-                if peek(s, at.next + 1) != Symbol::Name {
+                if from.peek(at.next + 1) != Symbol::Name {
                     return Err(Fault::Syntax(at.next + 1));
                 }
                 nodes[at.used] = Node::Component(at.root, at.next + 1);
@@ -108,25 +113,26 @@ pub fn variable(
 
 // The further expressions of a call whose name is at i, its first expression having been read up to `at`, where a comma is.
 #[cycle(expressions)]
-fn calls(
-    s: &[Symbol],
-    i: usize,
-    depth: usize,
-    nodes: &mut [Node],
-    used: usize,
-    at: Parsed,
-) -> Result<Parsed, Fault>
-    requires deep { 0 < depth }
-    requires named { slice_index_or s.now i STOP ≡ NAME }
-    requires opening { slice_index_or s.now (i + 1) STOP ≡ LEFT }
-    requires within { i + 1 < length s.now }
-    requires room { used + 2 * length s.now ≤ length nodes.old + 2 * i }
-    requires begun { Made 0 Exprs IsExprs of_exprs (ArgsWay depth s.now i) s.now (i + 2) (used + 1) nodes.old nodes.old at }
-    ensures { MatchResult result (λ p. Made 0 Primary IsPrimary of_primary (FormWay depth s.now i) s.now i used nodes.old nodes.new p) (λ f. FormRefused depth s.now i f) }
+fn calls(from: Spot<'_>, nodes: &mut [Node], at: Parsed) -> Result<Parsed, Fault>
+    requires deep { 0 < from.depth }
+    requires named { slice_index_or from.symbols.now from.next STOP ≡ NAME }
+    requires opening { slice_index_or from.symbols.now (from.next + 1) STOP ≡ LEFT }
+    requires within { from.next + 1 < length from.symbols.now }
+    requires room { Room 0 from nodes.old }
+    requires begun { Made 0 Exprs IsExprs of_exprs (ArgsWay from.depth from.symbols.now from.next) from.symbols.now (from.next + 2) (from.used + 1) nodes.old nodes.old at }
+    ensures { MatchResult result (λ p. Made 0 Primary IsPrimary of_primary (FormWay from.entry.depth from.entry.symbols.now from.entry.next) from.entry.symbols.now from.entry.next from.entry.used nodes.old nodes.new p) (λ f. FormRefused from.entry.depth from.entry.symbols.now from.entry.next f) }
 {
     let mut at = at;
-    while peek(s, at.next) == Symbol::Comma {
-        let e = expr(s, at.next + 1, depth - 1, nodes, at.used)?;
+    while from.peek(at.next) == Symbol::Comma {
+        let e = expr(
+            Spot {
+                next: at.next + 1,
+                depth: from.depth - 1,
+                used: at.used,
+                ..from
+            },
+            nodes,
+        )?;
         nodes[e.used] = Node::Also(at.root, e.root);
         at = Parsed {
             next: e.next,
@@ -134,10 +140,10 @@ fn calls(
             root: e.used,
         };
     }
-    if peek(s, at.next) != Symbol::Right {
+    if from.peek(at.next) != Symbol::Right {
         return Err(Fault::Syntax(at.next));
     }
-    nodes[at.used] = Node::CallOn(i, i + 1, at.root);
+    nodes[at.used] = Node::CallOn(from.next, from.next + 1, at.root);
     Ok(Parsed {
         next: at.next + 1,
         used: at.used + 1,
@@ -147,42 +153,44 @@ fn calls(
 
 // A form whose name is at i, a bracket behind it.
 #[cycle(expressions)]
-fn applied(
-    s: &[Symbol],
-    i: usize,
-    depth: usize,
-    nodes: &mut [Node],
-    used: usize,
-) -> Result<Parsed, Fault>
-    requires named { slice_index_or s.now i STOP ≡ NAME }
-    requires opening { slice_index_or s.now (i + 1) STOP ≡ LEFT }
-    requires within { i + 1 < length s.now }
-    requires room { used + 2 * length s.now ≤ length nodes.old + 2 * i }
-    ensures { MatchResult result (λ p. Made 0 Primary IsPrimary of_primary (FormWay depth s.now i) s.now i used nodes.old nodes.new p) (λ f. FormRefused depth s.now i f) }
+fn applied(from: Spot<'_>, nodes: &mut [Node]) -> Result<Parsed, Fault>
+    requires named { slice_index_or from.symbols.now from.next STOP ≡ NAME }
+    requires opening { slice_index_or from.symbols.now (from.next + 1) STOP ≡ LEFT }
+    requires within { from.next + 1 < length from.symbols.now }
+    requires room { Room 0 from nodes.old }
+    ensures { MatchResult result (λ p. Made 0 Primary IsPrimary of_primary (FormWay from.entry.depth from.entry.symbols.now from.entry.next) from.entry.symbols.now from.entry.next from.entry.used nodes.old nodes.new p) (λ f. FormRefused from.entry.depth from.entry.symbols.now from.entry.next f) }
 {
-    if depth == 0 {
-        return Err(Fault::Deep(i + 1));
+    if from.depth == 0 {
+        return Err(Fault::Deep(from.next + 1));
     }
-    if peek(s, i + 2) == Symbol::Right {
-        nodes[used] = Node::Call(i, i + 1);
+    if from.peek(from.next + 2) == Symbol::Right {
+        nodes[from.used] = Node::Call(from.next, from.next + 1);
         return Ok(Parsed {
-            next: i + 3,
-            used: used + 1,
-            root: used,
+            next: from.next + 3,
+            used: from.used + 1,
+            root: from.used,
         });
     }
-    nodes[used] = Node::Name(i);
-    let e = expr(s, i + 2, depth - 1, nodes, used + 1)?;
-    match peek(s, e.next) {
-        Symbol::Comma => calls(s, i, depth, nodes, used, e),
+    nodes[from.used] = Node::Name(from.next);
+    let e = expr(
+        Spot {
+            next: from.next + 2,
+            depth: from.depth - 1,
+            used: from.used + 1,
+            ..from
+        },
+        nodes,
+    )?;
+    match from.peek(e.next) {
+        Symbol::Comma => calls(from, nodes, e),
         Symbol::Right => {
-            nodes[e.used] = Node::Element(used, i + 1, e.root);
+            nodes[e.used] = Node::Element(from.used, from.next + 1, e.root);
             let at = Parsed {
                 next: e.next + 1,
                 used: e.used + 1,
                 root: e.used,
             };
-            variable(s, i, depth, nodes, used, at)
+            variable(from, nodes, at)
         }
         _ => Err(Fault::Syntax(e.next)),
     }
@@ -190,93 +198,75 @@ fn applied(
 
 // A form whose name is at i.
 #[cycle(expressions)]
-pub fn form(
-    s: &[Symbol],
-    i: usize,
-    depth: usize,
-    nodes: &mut [Node],
-    used: usize,
-) -> Result<Parsed, Fault>
-    requires named { slice_index_or s.now i STOP ≡ NAME }
-    requires within { i < length s.now }
-    requires room { used + 2 * length s.now ≤ length nodes.old + 2 * i }
-    ensures { MatchResult result (λ p. Made 0 Primary IsPrimary of_primary (FormWay depth s.now i) s.now i used nodes.old nodes.new p) (λ f. FormRefused depth s.now i f) }
+pub fn form(from: Spot<'_>, nodes: &mut [Node]) -> Result<Parsed, Fault>
+    requires named { slice_index_or from.symbols.now from.next STOP ≡ NAME }
+    requires within { from.next < length from.symbols.now }
+    requires room { Room 0 from nodes.old }
+    ensures { MatchResult result (λ p. Made 0 Primary IsPrimary of_primary (FormWay from.entry.depth from.entry.symbols.now from.entry.next) from.entry.symbols.now from.entry.next from.entry.used nodes.old nodes.new p) (λ f. FormRefused from.entry.depth from.entry.symbols.now from.entry.next f) }
 {
-    if peek(s, i + 1) == Symbol::Left {
-        return applied(s, i, depth, nodes, used);
+    if from.peek(from.next + 1) == Symbol::Left {
+        return applied(from, nodes);
     }
-    nodes[used] = Node::Name(i);
+    nodes[from.used] = Node::Name(from.next);
     let at = Parsed {
-        next: i + 1,
-        used: used + 1,
-        root: used,
+        next: from.next + 1,
+        used: from.used + 1,
+        root: from.used,
     };
-    variable(s, i, depth, nodes, used, at)
+    variable(from, nodes, at)
 }
 
 #[cycle(expressions)]
-fn primary(
-    s: &[Symbol],
-    i: usize,
-    depth: usize,
-    nodes: &mut [Node],
-    used: usize,
-) -> Result<Parsed, Fault>
-    requires within { i ≤ length s.now }
-    requires room { used + 2 * length s.now ≤ length nodes.old + 2 * i }
-    ensures { MatchResult result (λ p. Made 0 Primary IsPrimary of_primary (Way (a_primary ∷ []) depth s.now i) s.now i used nodes.old nodes.new p) (λ f. Refused (a_primary ∷ []) depth s.now i f) }
+fn primary(from: Spot<'_>, nodes: &mut [Node]) -> Result<Parsed, Fault>
+    requires within { from.next ≤ length from.symbols.now }
+    requires room { Room 0 from nodes.old }
+    ensures { ReadsTo 0 Primary IsPrimary of_primary (a_primary ∷ []) from.entry nodes.old nodes.new result }
 {
-    match peek(s, i) {
+    match from.peek(from.next) {
         Symbol::Integer => {
-            nodes[used] = Node::Integer(i);
+            nodes[from.used] = Node::Integer(from.next);
             Ok(Parsed {
-                next: i + 1,
-                used: used + 1,
-                root: used,
+                next: from.next + 1,
+                used: from.used + 1,
+                root: from.used,
             })
         }
         Symbol::Text => {
-            nodes[used] = Node::Text(i);
+            nodes[from.used] = Node::Text(from.next);
             Ok(Parsed {
-                next: i + 1,
-                used: used + 1,
-                root: used,
+                next: from.next + 1,
+                used: from.used + 1,
+                root: from.used,
             })
         }
-        Symbol::Name => form(s, i, depth, nodes, used),
+        Symbol::Name => form(from, nodes),
         Symbol::Left => {
-            let e = bracketed(s, i, depth, nodes, used)?;
-            nodes[e.used] = Node::Paren(i, e.root);
+            let e = bracketed(from, nodes)?;
+            nodes[e.used] = Node::Paren(from.next, e.root);
             Ok(Parsed {
                 next: e.next,
                 used: e.used + 1,
                 root: e.used,
             })
         }
-        _ => Err(Fault::Syntax(i)),
+        _ => Err(Fault::Syntax(from.next)),
     }
 }
 
 #[cycle(expressions)]
-fn term(
-    s: &[Symbol],
-    i: usize,
-    depth: usize,
-    nodes: &mut [Node],
-    used: usize,
-) -> Result<Parsed, Fault>
-    requires within { i ≤ length s.now }
-    requires room { used + 2 * length s.now ≤ length nodes.old + 2 * i }
-    ensures { MatchResult result (λ p. Made 0 Term IsTerm of_term (Way (a_term ∷ []) depth s.now i) s.now i used nodes.old nodes.new p) (λ f. Refused (a_term ∷ []) depth s.now i f) }
+fn term(from: Spot<'_>, nodes: &mut [Node]) -> Result<Parsed, Fault>
+    requires within { from.next ≤ length from.symbols.now }
+    requires room { Room 0 from nodes.old }
+    ensures { ReadsTo 0 Term IsTerm of_term (a_term ∷ []) from.entry nodes.old nodes.new result }
 {
-    let mut k = i;
-    while monadic(peek(s, k)) {
+    let mut k = from.next;
+    while monadic(from.peek(k)) {
         k += 1;
     }
-    let mut at = primary(s, k, depth, nodes, used)?;
-    while k > i {
+    let mut at = primary(Spot { next: k, ..from }, nodes)?;
+    while k > from.next {
         k -= 1;
-        nodes[at.used] = Node::Monadic(peek(s, k), k, at.root);
+        nodes[at.used] = Node::Monadic(from.peek(k), k, at.root);
         at.root = at.used;
         at.used += 1;
     }
@@ -285,26 +275,27 @@ fn term(
 
 // An expression of the level n.
 #[cycle(expressions)]
-fn level(
-    s: &[Symbol],
-    i: usize,
-    depth: usize,
-    nodes: &mut [Node],
-    used: usize,
-    n: usize,
-) -> Result<Parsed, Fault>
+fn level(from: Spot<'_>, nodes: &mut [Node], n: usize) -> Result<Parsed, Fault>
     requires level { n ≤ 5 }
-    requires within { i ≤ length s.now }
-    requires room { used + 2 * length s.now ≤ length nodes.old + 2 * i }
-    ensures { MatchResult result (λ p. Made 0 (Expr n) IsExpr of_expr (LevelWay n depth s.now i) s.now i used nodes.old nodes.new p) (λ f. LevelRefused depth s.now i f) }
+    requires within { from.next ≤ length from.symbols.now }
+    requires room { Room 0 from nodes.old }
+    ensures { MatchResult result (λ p. Made 0 (Expr n) IsExpr of_expr (LevelWay n from.entry.depth from.entry.symbols.now from.entry.next) from.entry.symbols.now from.entry.next from.entry.used nodes.old nodes.new p) (λ f. LevelRefused from.entry.depth from.entry.symbols.now from.entry.next f) }
 {
     if n == 0 {
-        return term(s, i, depth, nodes, used);
+        return term(from, nodes);
     }
-    let mut at = level(s, i, depth, nodes, used, n - 1)?;
-    while rank(peek(s, at.next)) == n - 1 {
-        let e = level(s, at.next + 1, depth, nodes, at.used, n - 1)?;
-        nodes[e.used] = Node::Dyadic(peek(s, at.next), at.next, at.root, e.root);
+    let mut at = level(from, nodes, n - 1)?;
+    while rank(from.peek(at.next)) == n - 1 {
+        let e = level(
+            Spot {
+                next: at.next + 1,
+                used: at.used,
+                ..from
+            },
+            nodes,
+            n - 1,
+        )?;
+        nodes[e.used] = Node::Dyadic(from.peek(at.next), at.next, at.root, e.root);
         at = Parsed {
             next: e.next,
             used: e.used + 1,
@@ -315,18 +306,12 @@ fn level(
 }
 
 #[cycle(expressions)]
-pub fn expr(
-    s: &[Symbol],
-    i: usize,
-    depth: usize,
-    nodes: &mut [Node],
-    used: usize,
-) -> Result<Parsed, Fault>
-    requires within { i ≤ length s.now }
-    requires room { used + 2 * length s.now ≤ length nodes.old + 2 * i }
-    ensures { MatchResult result (λ p. Made 0 (Expr 5) IsExpr of_expr (Way (an_expr ∷ []) depth s.now i) s.now i used nodes.old nodes.new p) (λ f. Refused (an_expr ∷ []) depth s.now i f) }
+pub fn expr(from: Spot<'_>, nodes: &mut [Node]) -> Result<Parsed, Fault>
+    requires within { from.next ≤ length from.symbols.now }
+    requires room { Room 0 from nodes.old }
+    ensures { ReadsTo 0 (Expr 5) IsExpr of_expr (an_expr ∷ []) from.entry nodes.old nodes.new result }
 {
-    level(s, i, depth, nodes, used, 5)
+    level(from, nodes, 5)
 }
 
 fn comparator(c: Symbol) -> bool
@@ -345,23 +330,24 @@ fn comparator(c: Symbol) -> bool
     }
 }
 
-fn comparison(
-    s: &[Symbol],
-    i: usize,
-    depth: usize,
-    nodes: &mut [Node],
-    used: usize,
-) -> Result<Parsed, Fault>
-    requires within { i ≤ length s.now }
-    requires room { used + 2 * length s.now ≤ length nodes.old + 2 * i }
-    ensures { MatchResult result (λ p. Made 0 Comparison IsComparison of_comparison (Way (each ands ∷ []) depth s.now i) s.now i used nodes.old nodes.new p) (λ f. Refused (each ands ∷ []) depth s.now i f) }
+fn comparison(from: Spot<'_>, nodes: &mut [Node]) -> Result<Parsed, Fault>
+    requires within { from.next ≤ length from.symbols.now }
+    requires room { Room 0 from nodes.old }
+    ensures { ReadsTo 0 Comparison IsComparison of_comparison (each ands ∷ []) from.entry nodes.old nodes.new result }
 {
-    let a = expr(s, i, depth, nodes, used)?;
-    let c = peek(s, a.next);
+    let a = expr(from, nodes)?;
+    let c = from.peek(a.next);
     if !comparator(c) {
         return Err(Fault::Syntax(a.next));
     }
-    let b = expr(s, a.next + 1, depth, nodes, a.used)?;
+    let b = expr(
+        Spot {
+            next: a.next + 1,
+            used: a.used,
+            ..from
+        },
+        nodes,
+    )?;
     nodes[b.used] = Node::Compare(c, a.root, b.root);
     Ok(Parsed {
         next: b.next,
@@ -370,50 +356,59 @@ fn comparison(
     })
 }
 
-fn subcondition(
-    s: &[Symbol],
-    i: usize,
-    depth: usize,
-    nodes: &mut [Node],
-    used: usize,
-) -> Result<Parsed, Fault>
-    requires within { i ≤ length s.now }
-    requires room { used + 2 * length s.now ≤ length nodes.old + 2 * i }
-    ensures { MatchResult result (λ p. Made 0 Subcondition IsSubcondition of_subcondition (Way (each ors ∷ []) depth s.now i) s.now i used nodes.old nodes.new p) (λ f. Refused (each ors ∷ []) depth s.now i f) }
-{
-    let mut at = comparison(s, i, depth, nodes, used)?;
-    while peek(s, at.next) == Symbol::And {
-        let e = comparison(s, at.next + 1, depth, nodes, at.used)?;
-        nodes[e.used] = Node::Also(at.root, e.root);
-        at = Parsed {
-            next: e.next,
-            used: e.used + 1,
-            root: e.used,
-        };
+/// Comparisons with AND between them.
+#[derive(Clone, Copy)]
+struct Comparisons;
+
+impl Entries for Comparisons {
+    ghost kind = { λ a. ands_list };
+
+    ghost slack = { 0 };
+
+    ghost goal = { λ a. each ors };
+
+    fn separator(self) -> Symbol {
+        Symbol::And
     }
-    Ok(at)
+
+    fn entry(self, from: Spot<'_>, nodes: &mut [Node]) -> Result<Parsed, Fault> {
+        comparison(from, nodes)
+    }
+
+    ghost small = { Prim.search rules };
+
+    ghost begins = { λ a. ors_begin };
 }
 
-pub fn condition(
-    s: &[Symbol],
-    i: usize,
-    depth: usize,
-    nodes: &mut [Node],
-    used: usize,
-) -> Result<Parsed, Fault>
-    requires within { i ≤ length s.now }
-    requires room { used + 2 * length s.now ≤ length nodes.old + 2 * i }
-    ensures { MatchResult result (λ p. Made 0 Condition IsCondition of_condition (Way (all ors ∷ []) depth s.now i) s.now i used nodes.old nodes.new p) (λ f. Refused (all ors ∷ []) depth s.now i f) }
-{
-    let mut at = subcondition(s, i, depth, nodes, used)?;
-    while peek(s, at.next) == Symbol::Or {
-        let e = subcondition(s, at.next + 1, depth, nodes, at.used)?;
-        nodes[e.used] = Node::Also(at.root, e.root);
-        at = Parsed {
-            next: e.next,
-            used: e.used + 1,
-            root: e.used,
-        };
+/// Subconditions with OR between them.
+#[derive(Clone, Copy)]
+struct Subconditions;
+
+impl Entries for Subconditions {
+    ghost kind = { λ a. ors_list };
+
+    ghost slack = { 0 };
+
+    ghost goal = { λ a. all ors };
+
+    fn separator(self) -> Symbol {
+        Symbol::Or
     }
-    Ok(at)
+
+    fn entry(self, from: Spot<'_>, nodes: &mut [Node]) -> Result<Parsed, Fault> {
+        read_list(Comparisons, from, nodes)
+    }
+
+    ghost small = { Prim.search rules };
+
+    ghost begins = { λ a. conditions_begin };
+}
+
+/// Subconditions, separated by OR.
+pub fn condition(from: Spot<'_>, nodes: &mut [Node]) -> Result<Parsed, Fault>
+    requires within { from.next ≤ length from.symbols.now }
+    requires room { Room 0 from nodes.old }
+    ensures { ReadsTo 0 Condition IsCondition of_condition (all ors ∷ []) from.entry nodes.old nodes.new result }
+{
+    read_list(Subconditions, from, nodes)
 }

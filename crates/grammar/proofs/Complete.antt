@@ -2,8 +2,8 @@
 use Rattle.std.proofs.Common.{◌≡◌, ℕ, List, [], ◌∷◌, refl, ap, ◌∙◌}
 use Rattle.grammar.specs.Symbols.{NAME, INTEGER, TEXT, AND, ARRAY, BYTE, DO, ELSE, ELSEIF, END, ENDBLOCK, ENDDATA, ENDPROC, INT, OR, REF, REP, THEN, LEFT, RIGHT, PLUS, MINUS, COMMA, SEMI, BECOMES}
 use Rattle.grammar.specs.Trees.{Token, token, symbol, key, Many, one, more, of_many, Opt, none, some, of_opt, of_name, of_names, Variable, name, element, component, Exprs, first, comma, of_expr, of_variable, Comparator, equal, unequal, less, at_most, greater, at_least, same_place, other_place, spell_comparator, Comparison, compare, Subcondition, Condition, of_comparison, of_subcondition, of_condition, Mode, int, byte, ref_int, ref_byte, ref_record, ref_array, ref_array_brackets, Amode, simple, records, of_mode, of_amode, Fields, field, also, next, of_fields, plain, given, of_inits, Value, constant, signed, minus_signed, identifier, string, empty_list, list, Values, only, and, Entry, once, repeated, of_value, of_values, of_entry, Dec, nothing, variables, arrays, structures, of_dec, Local, local, of_local, Locals, no_locals, locals, of_locals, Destination, place, val, of_destination, Body, body, Sequence, single, sequel, Statement, dummy, block, assign, invoke, invoke_on, branch, branch_else, repeat, loop, return, return_with, Arms, when, elsewhen, of_body, of_sequence, of_statement, of_arms, Brick, store, procedure, of_brick, Moditem, blank, external_procs, external_store, record_mode, own, entry, of_moditem, Module, of_module}
-use Rattle.grammar.specs.Machine.{start, final, assigned, started, branched, inside, declares, enclose, returns, bare, to_array, refers, fielded, Setting, stored, inblock, Sort, unset, set, Initial, Declared, value, via, chained, initial, stored_name, listed, entered, exprs, ors, ands, statements, modes, entries, moditems, declareds, decs, Goal, tok, all, each, rest, closed_on, a_source, compared, arms_on, returned, a_body, dims, an_amode, maybe_mode, maybe_modes, the_fields, fields_on, a_further, maybe_fields, given_on, chain, a_value, times_on, maybe_values, a_brick, an_expr, a_statement, a_mode, adds, Forest, Move, refuse, mapped, then, orelse, never, at_mode, at_all, just_name, a_module}
-use Rattle.grammar.proofs.Spell.{of_initial, of_declared}
+use Rattle.grammar.specs.Machine.{start, final, assigned, started, branched, inside, declares, enclose, returns, bare, to_array, refers, fielded, Setting, stored, inblock, Sort, unset, set, Initial, Declared, value, via, chained, initial, stored_name, listed, entered, exprs, ors, ands, statements, modes, entries, moditems, declareds, decs, Goal, tok, all, each, rest, closed_on, a_source, compared, arms_on, returned, a_body, dims, an_amode, maybe_mode, maybe_modes, the_fields, fields_on, a_further, maybe_fields, given_on, chain, a_value, times_on, maybe_values, a_brick, an_expr, a_statement, a_mode, adds, Forest, Move, refuse, mapped, then, orelse, never, at_mode, at_all, just_name, a_module, of_initial, of_declared}
+use Rattle.grammar.proofs.Spell.{}
 use Rattle.grammar.proofs.Read.{read, Off, Like, Chains, off, like, chains, all_is, ors_is}
 use Rattle.grammar.proofs.Expressions.{Ends, index_at, exprs_read, expr_read}
 use Rattle.grammar.proofs.Sources.{start_read, source_starts, chain_starts, start_onto}

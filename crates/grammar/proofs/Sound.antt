@@ -2,8 +2,8 @@
 use Rattle.std.proofs.Common.{◌≡◌, ℕ, Bool, true, false, cond, List, [], ◌∷◌, sym, refl, ap, ◌∙◌, subst}
 use Rattle.grammar.specs.Symbols.{NAME, INTEGER, TEXT, ABS, ARRAY, BLOCK, BYTE, DATA, DO, ELSE, ELSEIF, END, ENT, EXT, IF, INT, LAND, LENGTH, LOR, MOD, MODE, NEV, NOT, PROC, REF, RETURN, TO, VAL, WHILE, LEFT, RIGHT, STAR, PLUS, MINUS, COMMA, DOT, SEMI, LESS, EQUAL, MORE, HASH, BECOMES, DIVIDE, ATMOST, ATLEAST, IS, ISNT, same, same_true, Symbol}
 use Rattle.grammar.specs.Trees.{Token, token, mark, key, Spelling, one, of_many, Opt, none, some, of_opt, Expr, primary, integer, name, of_expr, of_term, of_primary, equal, compare, of_comparison, int, simple, records, of_mode, of_amode, field, of_fields, plain, constant, once, of_value, of_values, of_entry, nothing, no_locals, val, single, dummy, when, of_sequence, of_statement, store, of_brick, blank, own, of_moditem}
-use Rattle.grammar.specs.Machine.{arrange, Stand, inner, start, right, plug, final, links, End, Rest, Closed, shut, no_argument, argument, called, goes, ends, inside, bare, to_int, alike, Setting, stored, inblock, Sort, unset, set, Initial, value, uses, entered, stores, Repetition, exprs, ors, ands, statements, modes, entries, moditems, declareds, decs, Goal, tok, all, each, rest, links_on, a_term, a_primary, named, arguments, argued, closed_on, parts, a_source, compared, arms_on, returned, a_body, a_target, dims, an_amode, maybe_mode, maybe_modes, the_fields, fields_on, a_further, maybe_fields, given_on, chain, linked, a_value, times_on, maybe_values, an_external, a_brick, separator, Single, begun, Tree, Forest, Move, shift, skip, refuse, on, mapped, then, orelse, never, followed, optional, at_links, at_primary, at_term, at_expr, at_end, no_parts, at_dots, at_parts, at_named, behind, pull, at_argued, at_arguments, at_closed, at_source, at_comparator, at_comparison, at_mode, at_amode, at_dims, at_target, at_fields, at_fields_on, at_further, at_value, at_times, at_entry, at_declared, at_given, at_chain, at_linked, at_dec, at_statement, at_arms, at_returned, at_brick, at_external, at_moditem, at_rest, at_whole, at_each, at_all, at_body, move, void_each, map_opt, void_closed, void, Left, taken, step, pair, done}
-use Rattle.grammar.proofs.Spell.{of_links, arrange_of, of_source, of_end, of_rest, of_ending, of_closed, of_more_exprs, assigned_of, val_of, of_argued, of_arguments, of_named, named_of, of_others, branched_of, of_inside, enclose_of, of_returned, returns_of, of_dims, of_target, refers_of, of_furthers, fielded_of, of_initial, of_declared, of_chain, of_given, initial_of, stored_name_of, of_linked, block_name_of, of_times, entered_of, listed_of, of_external, externally_of, of_single, of_whole, of_more, begun_of, repeats_of, of_goal, of_forest}
+use Rattle.grammar.specs.Machine.{arrange, Stand, inner, start, right, plug, final, links, End, Rest, Closed, shut, no_argument, argument, called, goes, ends, inside, bare, to_int, alike, Setting, stored, inblock, Sort, unset, set, Initial, value, uses, entered, stores, Repetition, exprs, ors, ands, statements, modes, entries, moditems, declareds, decs, Goal, tok, all, each, rest, links_on, a_term, a_primary, named, arguments, argued, closed_on, parts, a_source, compared, arms_on, returned, a_body, a_target, dims, an_amode, maybe_mode, maybe_modes, the_fields, fields_on, a_further, maybe_fields, given_on, chain, linked, a_value, times_on, maybe_values, an_external, a_brick, separator, Single, begun, Tree, Forest, Move, shift, skip, refuse, on, mapped, then, orelse, never, followed, optional, at_links, at_primary, at_term, at_expr, at_end, no_parts, at_dots, at_parts, at_named, behind, pull, at_argued, at_arguments, at_closed, at_source, at_comparator, at_comparison, at_mode, at_amode, at_dims, at_target, at_fields, at_fields_on, at_further, at_value, at_times, at_entry, at_declared, at_given, at_chain, at_linked, at_dec, at_statement, at_arms, at_returned, at_brick, at_external, at_moditem, at_rest, at_whole, at_each, at_all, at_body, move, void_each, map_opt, void_closed, void, Left, taken, step, pair, done, of_initial, of_declared, of_single, of_whole}
+use Rattle.grammar.proofs.Spell.{of_links, arrange_of, of_source, of_end, of_rest, of_ending, of_closed, of_more_exprs, assigned_of, val_of, of_argued, of_arguments, of_named, named_of, of_others, branched_of, of_inside, enclose_of, of_returned, returns_of, of_dims, of_target, refers_of, of_furthers, fielded_of, of_chain, of_given, initial_of, stored_name_of, of_linked, block_name_of, of_times, entered_of, listed_of, of_external, externally_of, of_more, begun_of, repeats_of, of_goal, of_forest}
 
 -- What is made of trees for what is left has the symbol's item in front.
 abbrev Makes : {T : Type 0} → Spelling T → Symbol → (push : List Goal → List Goal) → (ℕ → (α : List Goal) → Forest (push α) → T × Forest α) → Type 0

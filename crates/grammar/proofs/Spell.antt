@@ -1,8 +1,8 @@
 -- The items of the trees of goals, and of what is made of them. Assumes nothing.
 use Rattle.std.proofs.Common.{◌≡◌, ℕ, zero, suc, List, [], ◌∷◌, refl, ap, ◌∙◌}
 use Rattle.grammar.specs.Symbols.{NAME, INTEGER, ARRAY, BYTE, DATA, ELSE, ELSEIF, END, ENDDATA, EXT, INT, PROC, REF, RETURN, THEN, VAL, LEFT, RIGHT, COMMA, DOT, SEMI, BECOMES, Symbol}
-use Rattle.grammar.specs.Trees.{Token, token, mark, key, Spelling, Many, one, more, of_many, Opt, none, some, of_opt, of_name, of_names, Dyadic, spell, Expr, Term, primary, variable, call, call_on, Variable, name, element, component, Exprs, first, comma, of_expr, of_term, of_primary, of_variable, of_exprs, spell_comparator, of_comparison, of_subcondition, of_condition, of_mode, of_amode, Fields, also, next, of_fields, of_init, Value, Values, of_value, of_values, of_entry, of_dec, of_local, Locals, locals, of_locals, Destination, place, val, of_destination, Arms, elsewhen, of_body, of_sequence, of_statement, of_arms, of_brick, of_moditem}
-use Rattle.grammar.specs.Machine.{Flat, here, below, Link, link, State, close_level, close, fresh, put, folds, arrange, Stand, inner, start, right, Part, index, select, plug, Source, final, onto, Tail, assigns, links, End, Rest, Ending, Closed, Argued, shut, several, Arguments, no_argument, argument, Named, called, goes, Result, assigned, finish, finish_call, gather, finish_calls, finish_closed, finish_argued, finish_arguments, finish_named, Others, ends, otherwise, elseif, branched, Inside, inside, declares, enclose, returns, Dims, bare, brackets, Target, to_int, to_byte, to_record, to_array, refers, Further, alike, other, fielded, Setting, stored, inblock, Sort, unset, set, Initial, Declared, Chain, value, via, chained, initial, stored_name, Linked, through, uses, block_name, listed, entered, External, procs, stores, externally, Repetition, exprs, ors, ands, statements, modes, entries, moditems, declareds, decs, Goal, tok, all, each, rest, links_on, a_term, a_primary, named, arguments, argued, closed_on, parts, a_source, compared, arms_on, returned, a_body, a_target, dims, an_amode, maybe_mode, maybe_modes, the_fields, fields_on, a_further, maybe_fields, given_on, chain, linked, a_value, times_on, maybe_values, an_external, a_brick, separator, Single, Whole, begun, added, adds, Tree, Forest}
+use Rattle.grammar.specs.Trees.{Token, token, mark, key, Spelling, Many, one, more, of_many, Opt, none, some, of_opt, of_name, of_names, Dyadic, spell, Expr, Term, primary, variable, call, call_on, Variable, name, element, component, Exprs, first, comma, of_expr, of_term, of_primary, of_variable, of_exprs, spell_comparator, of_condition, of_mode, of_amode, Fields, also, next, of_fields, of_init, Value, Values, of_value, of_values, of_entry, of_dec, of_local, Locals, locals, of_locals, Destination, place, val, of_destination, Arms, elsewhen, of_body, of_sequence, of_statement, of_arms, of_brick, of_moditem}
+use Rattle.grammar.specs.Machine.{Flat, here, below, Link, link, State, close_level, close, fresh, put, folds, arrange, Stand, inner, start, right, Part, index, select, plug, Source, final, onto, Tail, assigns, links, End, Rest, Ending, Closed, Argued, shut, several, Arguments, no_argument, argument, Named, called, goes, Result, assigned, finish, finish_call, gather, finish_calls, finish_closed, finish_argued, finish_arguments, finish_named, Others, ends, otherwise, elseif, branched, Inside, inside, declares, enclose, returns, Dims, bare, brackets, Target, to_int, to_byte, to_record, to_array, refers, Further, alike, other, fielded, Chain, value, via, chained, initial, stored_name, Linked, through, uses, block_name, listed, entered, External, procs, stores, externally, Repetition, exprs, ors, ands, statements, modes, entries, moditems, declareds, decs, Goal, tok, all, each, rest, links_on, a_term, a_primary, named, arguments, argued, closed_on, parts, a_source, compared, arms_on, returned, a_body, a_target, dims, an_amode, maybe_mode, maybe_modes, the_fields, fields_on, a_further, maybe_fields, given_on, chain, linked, a_value, times_on, maybe_values, an_external, a_brick, separator, Single, Whole, begun, added, adds, Tree, Forest, of_initial, of_single, of_whole}
 
 abbrev pub spell_flat : {n : ℕ} → Flat n → Symbol
 spell_flat (here n o) = spell o
@@ -212,14 +212,6 @@ fielded_of fs (alike n ∷ xs) r = fielded_of (also fs n) xs r
 fielded_of fs (other m n ∷ xs) r = fielded_of (next fs m n) xs r
 
 -- declarations
-abbrev pub of_initial : (v : Setting) → Spelling (Initial v)
-of_initial stored = of_value
-of_initial inblock = of_expr
-
-abbrev pub of_declared : (s : Sort) → Spelling (Declared s)
-of_declared unset = of_name
-of_declared (set v) = of_init (of_initial v)
-
 abbrev pub of_chain : {A : Type 0} → Spelling A → Spelling (Chain A)
 of_chain of (value a) r = of a r
 of_chain of (via n c) r = token NAME n ∷ key BECOMES ∷ of_chain of c r
@@ -269,28 +261,6 @@ externally_of (procs i ms m ns) r = refl
 externally_of (stores n ds) r = refl
 
 -- repetitions
-abbrev pub of_single : (r : Repetition) → Spelling (Single r)
-of_single exprs = of_expr
-of_single ors = of_subcondition
-of_single ands = of_comparison
-of_single statements = of_statement
-of_single modes = of_mode
-of_single entries = of_entry
-of_single moditems = of_moditem
-of_single (declareds s) = of_declared s
-of_single (decs s) = of_dec (of_many (of_declared s) COMMA)
-
-abbrev pub of_whole : (r : Repetition) → Spelling (Whole r)
-of_whole exprs = of_exprs
-of_whole ors = of_condition
-of_whole ands = of_subcondition
-of_whole statements = of_sequence
-of_whole modes = of_many of_mode COMMA
-of_whole entries = of_values
-of_whole moditems = of_many of_moditem SEMI
-of_whole (declareds s) = of_many (of_declared s) COMMA
-of_whole (decs s) = of_many (of_dec (of_many (of_declared s) COMMA)) SEMI
-
 abbrev pub of_more : (r : Repetition) → List (Single r) → List Token → List Token
 of_more r [] x = x
 of_more r (u ∷ us) x = key (separator r) ∷ of_single r u (of_more r us x)

@@ -4,7 +4,7 @@
 use Rattle.std.specs.Prelude.{◌≡◌, ℕ, zero, suc, Bool, true, false, cond, List, [], ◌∷◌}
 use Rattle.grammar.specs.Symbols.{NAME, INTEGER, TEXT, ABS, AND, ARRAY, BLOCK, BYTE, DATA, DO, ELSE, ELSEIF, END, ENDBLOCK, ENDDATA, ENDPROC, ENT, EXT, IF, INT, LAND, LENGTH, LOR, MOD, MODE, NEV, NOT, OR, PROC, REF, REP, RETURN, THEN, TO, VAL, WHILE, LEFT, RIGHT, STAR, PLUS, MINUS, COMMA, DOT, SEMI, LESS, EQUAL, MORE, HASH, BECOMES, DIVIDE, ATMOST, ATLEAST, IS, ISNT, same, Symbol}
 use Rattle.grammar.specs.Sentences.{Sentence, Viable, opens, closes, Answer, fine, bad, deep, Meaning}
-use Rattle.grammar.specs.Trees.{Many, one, more, Opt, none, some, Dyadic, times, divide, modulo, land, lor, nev, plus, minus, Monadic, positive, negative, absolute, complement, narrow, size, Expr, term, up, dyadic, Term, monadic, primary, Primary, integer, text, variable, call, call_on, paren, Variable, name, element, component, Exprs, first, comma, Comparator, equal, unequal, less, at_most, greater, at_least, same_place, other_place, Comparison, compare, Mode, int, byte, ref_int, ref_byte, ref_record, ref_array, ref_array_brackets, Amode, simple, records, Fields, field, also, next, Init, plain, given, Value, constant, signed, minus_signed, identifier, string, empty_list, list, Values, only, and, Entry, once, repeated, Dec, nothing, variables, arrays, structures, Local, local, Locals, no_locals, locals, Destination, place, val, Body, body, Sequence, single, sequel, Statement, dummy, block, assign, invoke, invoke_on, branch, branch_else, repeat, loop, return, return_with, Arms, when, elsewhen, Brick, store, procedure, Moditem, blank, external_procs, external_store, record_mode, own, entry}
+use Rattle.grammar.specs.Trees.{Many, one, more, Opt, none, some, Dyadic, times, divide, modulo, land, lor, nev, plus, minus, Monadic, positive, negative, absolute, complement, narrow, size, Expr, term, up, dyadic, Term, monadic, primary, Primary, integer, text, variable, call, call_on, paren, Variable, name, element, component, Exprs, first, comma, Comparator, equal, unequal, less, at_most, greater, at_least, same_place, other_place, Comparison, compare, Mode, int, byte, ref_int, ref_byte, ref_record, ref_array, ref_array_brackets, Amode, simple, records, Fields, field, also, next, Init, plain, given, Value, constant, signed, minus_signed, identifier, string, empty_list, list, Values, only, and, Entry, once, repeated, Dec, nothing, variables, arrays, structures, Local, local, Locals, no_locals, locals, Destination, place, val, Body, body, Sequence, single, sequel, Statement, dummy, block, assign, invoke, invoke_on, branch, branch_else, repeat, loop, return, return_with, Arms, when, elsewhen, Brick, store, procedure, Moditem, blank, external_procs, external_store, record_mode, own, entry, of_expr, of_subcondition, of_comparison, of_statement, of_mode, of_entry, of_moditem, of_dec, of_many, of_exprs, of_condition, of_sequence, of_values, of_name, of_init, of_value, Spelling}
 
 -- An expression as it is read: a term, and then operators with terms. Seen from level n, an operator is of the level below, or of a lower one.
 pub data Flat : ℕ → Type 0 where
@@ -319,6 +319,37 @@ Whole entries = Values
 Whole moditems = Many Moditem
 Whole (declareds s) = Many (Declared s)
 Whole (decs s) = Many (Dec (Many (Declared s)))
+
+-- and their items
+abbrev pub of_initial : (v : Setting) → Spelling (Initial v)
+of_initial stored = of_value
+of_initial inblock = of_expr
+
+abbrev pub of_declared : (s : Sort) → Spelling (Declared s)
+of_declared unset = of_name
+of_declared (set v) = of_init (of_initial v)
+
+abbrev pub of_single : (r : Repetition) → Spelling (Single r)
+of_single exprs = of_expr
+of_single ors = of_subcondition
+of_single ands = of_comparison
+of_single statements = of_statement
+of_single modes = of_mode
+of_single entries = of_entry
+of_single moditems = of_moditem
+of_single (declareds s) = of_declared s
+of_single (decs s) = of_dec (of_many (of_declared s) COMMA)
+
+abbrev pub of_whole : (r : Repetition) → Spelling (Whole r)
+of_whole exprs = of_exprs
+of_whole ors = of_condition
+of_whole ands = of_subcondition
+of_whole statements = of_sequence
+of_whole modes = of_many of_mode COMMA
+of_whole entries = of_values
+of_whole moditems = of_many of_moditem SEMI
+of_whole (declareds s) = of_many (of_declared s) COMMA
+of_whole (decs s) = of_many (of_dec (of_many (of_declared s) COMMA)) SEMI
 
 abbrev pub begun : (r : Repetition) → Single r → Whole r
 begun exprs e = first e

@@ -1,66 +1,21 @@
 -- A repetition, one and then a separator and one any number of times, that a loop reads into a list of nodes linked backwards. Assumes nothing.
-use Rattle.std.proofs.Common.{◌≡◌, ℕ, ◌+◌, ◌<◌, ◌≤◌, List, [], ◌∷◌, length, get_or, drop, set, sym, refl, ap, ◌∙◌, arith}
-use Rattle.grammar.specs.Symbols.{STOP}
+use Rattle.std.proofs.Common.{◌≡◌, eqb, false, ℕ, ◌+◌, ◌<◌, ◌≤◌, List, [], ◌∷◌, length, get_or, drop, set, sym, refl, ap, ◌∙◌, arith}
+use Rattle.grammar.specs.Symbols.{STOP, code}
 use Rattle.grammar.specs.declared.Symbol.{Symbol}
 use Rattle.grammar.specs.Trees.{Token, key, mark, Opt, none, some}
 use Rattle.grammar.specs.Sentences.{items}
-use Rattle.grammar.specs.Machine.{Goal, Forest, Repetition, exprs, ors, ands, statements, modes, entries, moditems, declareds, decs, Sort, unset, set as set_sort, stored, inblock, Single, Whole, begun, added, adds, all, each, rest, separator, level, step_to, is_some, pair, done, void_each, void}
-use Rattle.grammar.proofs.Spell.{of_single, of_whole, begun_of, added_of}
+use Rattle.grammar.specs.Machine.{Goal, Forest, Repetition, exprs, ors, ands, statements, modes, entries, moditems, declareds, decs, Sort, unset, set as set_sort, stored, inblock, Single, Whole, begun, added, adds, all, each, rest, separator, level, step_to, is_some, pair, done, void_each, void, of_single, of_whole}
+use Rattle.grammar.proofs.Spell.{begun_of, added_of}
 use Rattle.grammar.proofs.Steps.{items_here, step_at, skip_at, followed_at}
 use Rattle.nodes.proofs.Build.{grown, not_on}
 use Rattle.nodes.proofs.Keep.{agree_trans, keep_expr, keep_exprs, keep_many, keep_comparison, keep_subcondition, keep_condition, keep_statement, keep_sequence, keep_mode, keep_entry, keep_values, keep_name, keep_init, keep_value, keep_dec, keep_moditem}
 use Rattle.nodes.specs.Made.{at, Made, Way, Refused}
 use Rattle.nodes.specs.Nodes.{At, Agree, Reading, IsExpr, IsExprs, IsMany, IsComparison, IsSubcondition, IsCondition, IsStatement, IsSequence, IsMode, IsEntry, IsValues, IsName, IsInit, IsValue, IsDec, IsModitem, IsModule}
+use Rattle.nodes.specs.Lists.{Listed, exprs_list, ors_list, ands_list, statements_list, modes_list, entries_list, names_list, stored_list, inblock_list, described_list, storing_list, moditems_list, rep, IsSingle, IsWhole, Begins}
 use Rattle.nodes.specs.declared.Node.{Node}
 use Rattle.nodes.specs.declared.Node.TheVariants.{Also}
 use Rattle.nodes.specs.declared.Parsed.{Parsed}
 use Rattle.nodes.specs.declared.Fault.{Fault}
-
--- The repetitions of the parser.
-pub data Listed : Type 0 where
-  exprs_list ors_list ands_list statements_list modes_list entries_list names_list stored_list inblock_list described_list storing_list moditems_list : Listed
-
-abbrev pub rep : Listed → Repetition
-rep exprs_list = exprs
-rep ors_list = ors
-rep ands_list = ands
-rep statements_list = statements
-rep modes_list = modes
-rep entries_list = entries
-rep names_list = declareds unset
-rep stored_list = declareds (set_sort stored)
-rep inblock_list = declareds (set_sort inblock)
-rep described_list = decs unset
-rep storing_list = decs (set_sort stored)
-rep moditems_list = moditems
-
-abbrev pub IsSingle : (r : Listed) → Reading (Single (rep r))
-IsSingle exprs_list = IsExpr
-IsSingle ors_list = IsSubcondition
-IsSingle ands_list = IsComparison
-IsSingle statements_list = IsStatement
-IsSingle modes_list = IsMode
-IsSingle entries_list = IsEntry
-IsSingle names_list = IsName
-IsSingle stored_list = IsInit IsValue
-IsSingle inblock_list = IsInit IsExpr
-IsSingle described_list = IsDec (IsMany IsName)
-IsSingle storing_list = IsDec (IsMany (IsInit IsValue))
-IsSingle moditems_list = IsModitem
-
-abbrev pub IsWhole : (r : Listed) → Reading (Whole (rep r))
-IsWhole exprs_list = IsExprs
-IsWhole ors_list = IsCondition
-IsWhole ands_list = IsSubcondition
-IsWhole statements_list = IsSequence
-IsWhole modes_list = IsMany IsMode
-IsWhole entries_list = IsValues
-IsWhole names_list = IsMany (IsName)
-IsWhole stored_list = IsMany (IsInit IsValue)
-IsWhole inblock_list = IsMany (IsInit IsExpr)
-IsWhole described_list = IsMany (IsDec (IsMany IsName))
-IsWhole storing_list = IsMany (IsDec (IsMany (IsInit IsValue)))
-IsWhole moditems_list = IsModule
 
 is_begun : (r : Listed) (u : Single (rep r)) (ns : List Node) (k : ℕ) → IsSingle r u ns k → IsWhole r (begun (rep r) u) ns k
 is_begun exprs_list u ns k is = is
@@ -160,9 +115,20 @@ sep_mark described_list i = refl
 sep_mark storing_list i = refl
 sep_mark moditems_list i = refl
 
--- how a repetition's goal h begins
-abbrev pub Begins : Listed → Goal → Type 0
-Begins r h = (d : ℕ) (α : List Goal) (s : List Symbol) (i : ℕ) → at d (h ∷ α) s i ≡ at d (each (rep r) ∷ rest (rep r) ∷ α) s i
+-- a separator is not the mark past the end
+pub sep_far : (r : Listed) → eqb (code (separator (rep r))) 0 ≡ false
+sep_far exprs_list = refl
+sep_far ors_list = refl
+sep_far ands_list = refl
+sep_far statements_list = refl
+sep_far modes_list = refl
+sep_far entries_list = refl
+sep_far names_list = refl
+sep_far stored_list = refl
+sep_far inblock_list = refl
+sep_far described_list = refl
+sep_far storing_list = refl
+sep_far moditems_list = refl
 
 abbrev RestWay : (r : Listed) → Goal → ℕ → List Symbol → ℕ → Whole (rep r) → ℕ → Type 0
 RestWay r h d s i t j = (α : List Goal) → at d (h ∷ α) s i ≡ at d (rest (rep r) ∷ α) s j

@@ -46,12 +46,12 @@ Room x a ns = a.used + x + 2 * length a.symbols.now ≤ length ns + 2 * a.next
 
 -- What reading from a spot answers: where M holds for a tree from there to a place, this tree; or a fault of which F holds. The nodes
 -- ns became ms.
-abbrev pub Reads : (x : ℕ) {T : Type 0} → (T → List Node → ℕ → Type 0) → Spelling T → (ℕ → List Symbol → ℕ → T → ℕ → Type 0) → (ℕ → List Symbol → ℕ → Fault → Type 0) → Spot → List Node → List Node → Result Parsed Fault → Type 0
-Reads x Is of M F a ns ms r = MatchResult r (λ p. Made x _ Is of (M a.depth a.symbols.now a.next) a.symbols.now a.next a.used ns ms p) (λ f. F a.depth a.symbols.now a.next f)
+abbrev pub Reads : (x : ℕ) (T : Type 0) → (T → List Node → ℕ → Type 0) → Spelling T → (ℕ → List Symbol → ℕ → T → ℕ → Type 0) → (ℕ → List Symbol → ℕ → Fault → Type 0) → Spot → List Node → List Node → Result Parsed Fault → Type 0
+Reads x T Is of M F a ns ms r = MatchResult r (λ p. Made x T Is of (M a.depth a.symbols.now a.next) a.symbols.now a.next a.used ns ms p) (λ f. F a.depth a.symbols.now a.next f)
 
 -- the same where the goals β are met by what was read
-abbrev pub ReadsTo : (x : ℕ) {T : Type 0} → (T → List Node → ℕ → Type 0) → Spelling T → List Goal → Spot → List Node → List Node → Result Parsed Fault → Type 0
-ReadsTo x Is of β a ns ms r = Reads x Is of (Way β) (Refused β) a ns ms r
+abbrev pub ReadsTo : (x : ℕ) (T : Type 0) → (T → List Node → ℕ → Type 0) → Spelling T → List Goal → Spot → List Node → List Node → Result Parsed Fault → Type 0
+ReadsTo x T Is of β a ns ms r = Reads x T Is of (Way β) (Refused β) a ns ms r
 
 -- An expression of level n is followed by no operator of a lower level.
 abbrev pub rank : Symbol → ℕ

@@ -1,13 +1,10 @@
 //! The nodes of a module's tree, and reading terminals.
 #![tactic(auto)]
 
+pub mod lists;
+
 ghost use Rattle.std.specs.Prelude.{◌≡◌, ◌<◌, length, ◌≢◌, slice_index_or};
 ghost use Rattle.grammar.specs.Symbols.{STOP};
-ghost use Rattle.std.specs.Prelude.{[], ◌∷◌};
-ghost use Rattle.grammar.specs.Trees.{of_mode};
-ghost use Rattle.grammar.specs.Machine.{a_mode};
-ghost use Rattle.nodes.specs.Nodes.{IsMode};
-ghost use Rattle.nodes.specs.Made.{Room, ReadsTo};
 
 use grammar::Symbol;
 
@@ -121,11 +118,4 @@ impl<'s> Spot<'s> {
     {
         self.symbols.get(i).copied().unwrap_or(Symbol::Stop)
     }
-}
-
-pub fn probe(from: Spot<'_>, nodes: &mut [Node]) -> Result<Parsed, Fault>
-    requires room { Room 1 from nodes.old }
-    ensures { ReadsTo 0 IsMode of_mode (a_mode ∷ []) from.entry nodes.old nodes.new result }
-{
-    Err(Fault::Syntax(from.next))
 }

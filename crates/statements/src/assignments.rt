@@ -1,6 +1,6 @@
 //! Reading assignments and calls of procedures into nodes.
 ghost use Rattle.std.specs.Prelude.{◌≡◌, ◌+◌, ◌*◌, ◌<◌, ◌≤◌, [], ◌∷◌, length, MatchResult, slice_index_or};
-ghost use Rattle.nodes.specs.Made.{Made, Way, Refused, by_val, VariableWay, VariableRefused};
+ghost use Rattle.nodes.specs.Made.{Made, Way, Refused, by_val, VariableWay, VariableRefused, Room, ReadsTo};
 ghost use Rattle.nodes.specs.Nodes.{IsMany, IsPrimary, IsVariable, IsDestination, IsStatement, blank_node};
 ghost use Rattle.grammar.specs.Symbols.{Says, STOP, NAME, BECOMES, VAL};
 ghost use Rattle.grammar.specs.Trees.{Many, Primary, Variable, Destination, Statement, of_variable, of_statement};
@@ -9,7 +9,7 @@ ghost use Rattle.statements.specs.Assigning.{Form, Shows, IsPlace, invocation as
 
 use expressions::{expr, form, variable};
 use grammar::Symbol;
-use nodes::{Fault, Node, Parsed, peek};
+use nodes::{Fault, Node, Parsed, Spot};
 
 /// What a form is that begins with a name: a call, by its name, bracket and expressions; a name with one index, which may be a call
 /// with one expression or a destination; or any other variable, which can only be a destination.
@@ -48,11 +48,11 @@ fn shape_of(nodes: &[Node], k: usize) -> Shape
 }
 
 /// Whether a form of this shape, which ends before j, is a destination: a variable with ':=' behind it.
-fn destined(s: &[Symbol], j: usize, shape: Shape) -> bool
-    ensures { Says result (IsPlace shape × (slice_index_or s.now j STOP ≡ BECOMES)) }
+fn destined(from: Spot<'_>, j: usize, shape: Shape) -> bool
+    ensures { Says result (IsPlace shape × (slice_index_or from.entry.symbols.now j STOP ≡ BECOMES)) }
 {
     match shape {
-        Shape::Place | Shape::Indexed(_, _, _) => peek(s, j) == Symbol::Becomes,
+        Shape::Place | Shape::Indexed(_, _, _) => from.peek(j) == Symbol::Becomes,
         _ => false,
     }
 }
@@ -70,48 +70,42 @@ fn invocation(shape: Shape) -> Option<Node>
 }
 
 /// A variable whose name is at i, VAL being in front of it.
-fn val_variable(
-    s: &[Symbol],
-    i: usize,
-    depth: usize,
-    nodes: &mut [Node],
-    used: usize,
-) -> Result<Parsed, Fault>
-    requires named { slice_index_or s.now i STOP ≡ NAME }
-    requires there { i < length s.now }
-    requires room { used + 2 * length s.now ≤ length nodes.old + 2 * i }
-    ensures { MatchResult result (λ p. Made 0 Variable IsVariable of_variable (VariableWay by_val depth s.now i) s.now i used nodes.old nodes.new p) (λ f. VariableRefused by_val depth s.now i f) }
+fn val_variable(from: Spot<'_>, nodes: &mut [Node]) -> Result<Parsed, Fault>
+    requires named { slice_index_or from.symbols.now from.next STOP ≡ NAME }
+    requires there { from.next < length from.symbols.now }
+    requires room { Room 0 from nodes.old }
+    ensures { MatchResult result (λ p. Made 0 Variable IsVariable of_variable (VariableWay by_val from.entry.depth from.entry.symbols.now from.entry.next) from.entry.symbols.now from.entry.next from.entry.used nodes.old nodes.new p) (λ f. VariableRefused by_val from.entry.depth from.entry.symbols.now from.entry.next f) }
 {
-    nodes[used] = Node::Name(i);
+    nodes[from.used] = Node::Name(from.next);
     let name = Parsed {
-        next: i + 1,
-        used: used + 1,
-        root: used,
+        next: from.next + 1,
+        used: from.used + 1,
+        root: from.used,
     };
-    variable(s, i, depth, nodes, used, name)
+    variable(from, nodes, name)
 }
 
 /// A destination that begins with VAL at i, with the ':=' behind it.
-fn val_target(
-    s: &[Symbol],
-    i: usize,
-    depth: usize,
-    nodes: &mut [Node],
-    used: usize,
-) -> Result<Parsed, Fault>
-    requires valued { slice_index_or s.now i STOP ≡ VAL }
-    requires there { i < length s.now }
-    requires room { used + 2 * length s.now ≤ length nodes.old + 2 * i }
-    ensures { MatchResult result (λ p. Made 0 Destination IsDestination of_target (ValWay depth s.now i) s.now i used nodes.old nodes.new p × (p.used + 2 * i < 2 * p.next + used)) (λ f. Refused (tok NAME ∷ parts start ∷ []) depth s.now (i + 1) f) }
+fn val_target(from: Spot<'_>, nodes: &mut [Node]) -> Result<Parsed, Fault>
+    requires valued { slice_index_or from.symbols.now from.next STOP ≡ VAL }
+    requires there { from.next < length from.symbols.now }
+    requires room { Room 0 from nodes.old }
+    ensures { MatchResult result (λ p. Made 0 Destination IsDestination of_target (ValWay from.entry.depth from.entry.symbols.now from.entry.next) from.entry.symbols.now from.entry.next from.entry.used nodes.old nodes.new p × (p.used + 2 * from.entry.next < 2 * p.next + from.entry.used)) (λ f. Refused (tok NAME ∷ parts start ∷ []) from.entry.depth from.entry.symbols.now (from.entry.next + 1) f) }
 {
-    if peek(s, i + 1) != Symbol::Name {
-        return Err(Fault::Syntax(i + 1));
+    if from.peek(from.next + 1) != Symbol::Name {
+        return Err(Fault::Syntax(from.next + 1));
     }
-    let v = val_variable(s, i + 1, depth, nodes, used)?;
-    if peek(s, v.next) != Symbol::Becomes {
+    let v = val_variable(
+        Spot {
+            next: from.next + 1,
+            ..from
+        },
+        nodes,
+    )?;
+    if from.peek(v.next) != Symbol::Becomes {
         return Err(Fault::Syntax(v.next));
     }
-    nodes[v.used] = Node::Val(i, v.root);
+    nodes[v.used] = Node::Val(from.next, v.root);
     Ok(Parsed {
         next: v.next + 1,
         used: v.used + 1,
@@ -120,21 +114,15 @@ fn val_target(
 }
 
 /// Behind a ':=', at i: one more destination with the ':=' behind it, or nothing where an expression is.
-fn destination(
-    s: &[Symbol],
-    i: usize,
-    depth: usize,
-    nodes: &mut [Node],
-    used: usize,
-) -> Result<Option<Parsed>, Fault>
-    requires room { used + 2 * length s.now ≤ length nodes.old + 2 * i }
-    ensures { MatchResult result (λ o. Onward depth s.now i used nodes.old nodes.new o) (λ f. Refused (a_source ∷ []) depth s.now i f) }
+fn destination(from: Spot<'_>, nodes: &mut [Node]) -> Result<Option<Parsed>, Fault>
+    requires room { Room 0 from nodes.old }
+    ensures { MatchResult result (λ o. Onward from.entry.depth from.entry.symbols.now from.entry.next from.entry.used nodes.old nodes.new o) (λ f. Refused (a_source ∷ []) from.entry.depth from.entry.symbols.now from.entry.next f) }
 {
-    match peek(s, i) {
-        Symbol::Val => Ok(Some(val_target(s, i, depth, nodes, used)?)),
+    match from.peek(from.next) {
+        Symbol::Val => Ok(Some(val_target(from, nodes)?)),
         Symbol::Name => {
-            let f = form(s, i, depth, nodes, used)?;
-            if !destined(s, f.next, shape_of(nodes, f.root)) {
+            let f = form(from, nodes)?;
+            if !destined(from, f.next, shape_of(nodes, f.root)) {
                 return Ok(None);
             }
             Ok(Some(Parsed {
@@ -148,21 +136,21 @@ fn destination(
 }
 
 /// The rest of an assignment that begins at i, its first destination having been read, with the ':=' behind it, up to `first`.
-fn assignment(
-    s: &[Symbol],
-    i: usize,
-    depth: usize,
-    nodes: &mut [Node],
-    used: usize,
-    first: Parsed,
-) -> Result<Parsed, Fault>
-    requires room { used + 2 * length s.now ≤ length nodes.old + 2 * i }
-    requires begun { Made 0 (Many Destination) (IsMany IsDestination) of_targets (TargetsWay depth s.now i) s.now i used nodes.old nodes.old first }
-    requires few { first.used + 2 * i < 2 * first.next + used }
-    ensures { MatchResult result (λ p. Made 1 Statement IsStatement of_statement (Way (a_statement ∷ []) depth s.now i) s.now i used nodes.old nodes.new p) (λ f. Refused (a_statement ∷ []) depth s.now i f) }
+fn assignment(from: Spot<'_>, nodes: &mut [Node], first: Parsed) -> Result<Parsed, Fault>
+    requires room { Room 0 from nodes.old }
+    requires begun { Made 0 (Many Destination) (IsMany IsDestination) of_targets (TargetsWay from.depth from.symbols.now from.next) from.symbols.now from.next from.used nodes.old nodes.old first }
+    requires few { first.used + 2 * from.next < 2 * first.next + from.used }
+    ensures { ReadsTo 1 Statement IsStatement of_statement (a_statement ∷ []) from.entry nodes.old nodes.new result }
 {
     let mut at = first;
-    while let Some(d) = destination(s, at.next, depth, nodes, at.used)? {
+    while let Some(d) = destination(
+        Spot {
+            next: at.next,
+            used: at.used,
+            ..from
+        },
+        nodes,
+    )? {
         nodes[d.used] = Node::Also(at.root, d.root);
         at = Parsed {
             next: d.next,
@@ -170,7 +158,14 @@ fn assignment(
             root: d.used,
         };
     }
-    let e = expr(s, at.next, depth, nodes, at.used)?;
+    let e = expr(
+        Spot {
+            next: at.next,
+            used: at.used,
+            ..from
+        },
+        nodes,
+    )?;
     nodes[e.used] = Node::Assign(at.root, e.root);
     Ok(Parsed {
         next: e.next,
@@ -180,44 +175,32 @@ fn assignment(
 }
 
 /// A statement that begins with VAL at i.
-pub fn valued(
-    s: &[Symbol],
-    i: usize,
-    depth: usize,
-    nodes: &mut [Node],
-    used: usize,
-) -> Result<Parsed, Fault>
-    requires valued { slice_index_or s.now i STOP ≡ VAL }
-    requires there { i < length s.now }
-    requires room { used + 1 + 2 * length s.now ≤ length nodes.old + 2 * i }
-    ensures { MatchResult result (λ p. Made 1 Statement IsStatement of_statement (Way (a_statement ∷ []) depth s.now i) s.now i used nodes.old nodes.new p) (λ f. Refused (a_statement ∷ []) depth s.now i f) }
+pub fn valued(from: Spot<'_>, nodes: &mut [Node]) -> Result<Parsed, Fault>
+    requires valued { slice_index_or from.symbols.now from.next STOP ≡ VAL }
+    requires there { from.next < length from.symbols.now }
+    requires room { Room 1 from nodes.old }
+    ensures { ReadsTo 1 Statement IsStatement of_statement (a_statement ∷ []) from.entry nodes.old nodes.new result }
 {
-    let first = val_target(s, i, depth, nodes, used)?;
-    assignment(s, i, depth, nodes, used, first)
+    let first = val_target(from, nodes)?;
+    assignment(from, nodes, first)
 }
 
 /// A statement that begins with a name at i.
-pub fn named(
-    s: &[Symbol],
-    i: usize,
-    depth: usize,
-    nodes: &mut [Node],
-    used: usize,
-) -> Result<Parsed, Fault>
-    requires named { slice_index_or s.now i STOP ≡ NAME }
-    requires there { i < length s.now }
-    requires room { used + 1 + 2 * length s.now ≤ length nodes.old + 2 * i }
-    ensures { MatchResult result (λ p. Made 1 Statement IsStatement of_statement (Way (a_statement ∷ []) depth s.now i) s.now i used nodes.old nodes.new p) (λ f. Refused (a_statement ∷ []) depth s.now i f) }
+pub fn named(from: Spot<'_>, nodes: &mut [Node]) -> Result<Parsed, Fault>
+    requires named { slice_index_or from.symbols.now from.next STOP ≡ NAME }
+    requires there { from.next < length from.symbols.now }
+    requires room { Room 1 from nodes.old }
+    ensures { ReadsTo 1 Statement IsStatement of_statement (a_statement ∷ []) from.entry nodes.old nodes.new result }
 {
-    let f = form(s, i, depth, nodes, used)?;
+    let f = form(from, nodes)?;
     let shape = shape_of(nodes, f.root);
-    if destined(s, f.next, shape) {
+    if destined(from, f.next, shape) {
         let first = Parsed {
             next: f.next + 1,
             used: f.used,
             root: f.root,
         };
-        return assignment(s, i, depth, nodes, used, first);
+        return assignment(from, nodes, first);
     }
     let Some(node) = invocation(shape) else {
         return Err(Fault::Syntax(f.next));

@@ -3,7 +3,7 @@ ghost use Rattle.std.specs.Prelude.{◌≡◌, ℕ, ◌+◌, ◌-◌, ◌*◌, �
 ghost use Rattle.grammar.specs.Symbols.{STOP, BLOCK, IF, TO, WHILE, RETURN, THEN, ELSE, ELSEIF};
 ghost use Rattle.grammar.specs.Trees.{Body, Sequence, Statement, Arms, of_body, of_sequence, of_statement, of_arms};
 ghost use Rattle.grammar.specs.Machine.{a_body, a_statement, all, ors, statements, tok};
-ghost use Rattle.nodes.specs.Made.{Made, Way, Refused};
+ghost use Rattle.nodes.specs.Made.{Made, Way, Refused, Room, ReadsTo};
 ghost use Rattle.nodes.specs.Nodes.{IsBody, IsSequence, IsStatement, IsArms};
 ghost use Rattle.statements.specs.Bodies.{Arm, IsArm, of_arm, ArmsWay};
 
@@ -11,23 +11,24 @@ use crate::assignments::{named, valued};
 use declarations::locals::locals;
 use expressions::{bracketed, condition, expr};
 use grammar::Symbol;
-use nodes::{Fault, Node, Parsed, peek};
+use nodes::{Fault, Node, Parsed, Spot};
 
 /// Declarations of locals, and then statements.
 #[cycle(statements)]
-pub fn body(
-    s: &[Symbol],
-    i: usize,
-    depth: usize,
-    nodes: &mut [Node],
-    used: usize,
-) -> Result<Parsed, Fault>
-    requires within { i ≤ length s.now }
-    requires room { used + 3 + 2 * length s.now ≤ length nodes.old + 2 * i }
-    ensures { MatchResult result (λ p. Made 3 Body IsBody of_body (Way (a_body ∷ []) depth s.now i) s.now i used nodes.old nodes.new p) (λ f. Refused (a_body ∷ []) depth s.now i f) }
+pub fn body(from: Spot<'_>, nodes: &mut [Node]) -> Result<Parsed, Fault>
+    requires within { from.next ≤ length from.symbols.now }
+    requires room { Room 3 from nodes.old }
+    ensures { ReadsTo 3 Body IsBody of_body (a_body ∷ []) from.entry nodes.old nodes.new result }
 {
-    let l = locals(s, i, depth, nodes, used)?;
-    let q = sequence(s, l.next, depth, nodes, l.used)?;
+    let l = locals(from, nodes)?;
+    let q = sequence(
+        Spot {
+            next: l.next,
+            used: l.used,
+            ..from
+        },
+        nodes,
+    )?;
     nodes[q.used] = Node::Body(l.root, q.root);
     Ok(Parsed {
         next: q.next,
@@ -38,20 +39,21 @@ pub fn body(
 
 /// One statement, and further ones behind semicolons.
 #[cycle(statements)]
-fn sequence(
-    s: &[Symbol],
-    i: usize,
-    depth: usize,
-    nodes: &mut [Node],
-    used: usize,
-) -> Result<Parsed, Fault>
-    requires within { i ≤ length s.now }
-    requires room { used + 1 + 2 * length s.now ≤ length nodes.old + 2 * i }
-    ensures { MatchResult result (λ p. Made 1 Sequence IsSequence of_sequence (Way (all statements ∷ []) depth s.now i) s.now i used nodes.old nodes.new p) (λ f. Refused (all statements ∷ []) depth s.now i f) }
+fn sequence(from: Spot<'_>, nodes: &mut [Node]) -> Result<Parsed, Fault>
+    requires within { from.next ≤ length from.symbols.now }
+    requires room { Room 1 from nodes.old }
+    ensures { ReadsTo 1 Sequence IsSequence of_sequence (all statements ∷ []) from.entry nodes.old nodes.new result }
 {
-    let mut at = statement(s, i, depth, nodes, used)?;
-    while peek(s, at.next) == Symbol::Semi {
-        let e = statement(s, at.next + 1, depth, nodes, at.used)?;
+    let mut at = statement(from, nodes)?;
+    while from.peek(at.next) == Symbol::Semi {
+        let e = statement(
+            Spot {
+                next: at.next + 1,
+                used: at.used,
+                ..from
+            },
+            nodes,
+        )?;
         nodes[e.used] = Node::Also(at.root, e.root);
         at = Parsed {
             next: e.next,
@@ -63,31 +65,25 @@ fn sequence(
 }
 
 #[cycle(statements)]
-fn statement(
-    s: &[Symbol],
-    i: usize,
-    depth: usize,
-    nodes: &mut [Node],
-    used: usize,
-) -> Result<Parsed, Fault>
-    requires within { i ≤ length s.now }
-    requires room { used + 1 + 2 * length s.now ≤ length nodes.old + 2 * i }
-    ensures { MatchResult result (λ p. Made 1 Statement IsStatement of_statement (Way (a_statement ∷ []) depth s.now i) s.now i used nodes.old nodes.new p) (λ f. Refused (a_statement ∷ []) depth s.now i f) }
+fn statement(from: Spot<'_>, nodes: &mut [Node]) -> Result<Parsed, Fault>
+    requires within { from.next ≤ length from.symbols.now }
+    requires room { Room 1 from nodes.old }
+    ensures { ReadsTo 1 Statement IsStatement of_statement (a_statement ∷ []) from.entry nodes.old nodes.new result }
 {
-    match peek(s, i) {
-        Symbol::Block => block(s, i, depth, nodes, used),
-        Symbol::If => branch(s, i, depth, nodes, used),
-        Symbol::To => repeat(s, i, depth, nodes, used),
-        Symbol::While => while_loop(s, i, depth, nodes, used),
-        Symbol::Return => returning(s, i, depth, nodes, used),
-        Symbol::Val => valued(s, i, depth, nodes, used),
-        Symbol::Name => named(s, i, depth, nodes, used),
+    match from.peek(from.next) {
+        Symbol::Block => block(from, nodes),
+        Symbol::If => branch(from, nodes),
+        Symbol::To => repeat(from, nodes),
+        Symbol::While => while_loop(from, nodes),
+        Symbol::Return => returning(from, nodes),
+        Symbol::Val => valued(from, nodes),
+        Symbol::Name => named(from, nodes),
         _ => {
-            nodes[used] = Node::Dummy;
+            nodes[from.used] = Node::Dummy;
             Ok(Parsed {
-                next: i,
-                used: used + 1,
-                root: used,
+                next: from.next,
+                used: from.used + 1,
+                root: from.used,
             })
         }
     }
@@ -95,23 +91,24 @@ fn statement(
 
 /// A block, BLOCK being at i.
 #[cycle(statements)]
-fn block(
-    s: &[Symbol],
-    i: usize,
-    depth: usize,
-    nodes: &mut [Node],
-    used: usize,
-) -> Result<Parsed, Fault>
-    requires opening { slice_index_or s.now i STOP ≡ BLOCK }
-    requires there { i < length s.now }
-    requires room { used + 1 + 2 * length s.now ≤ length nodes.old + 2 * i }
-    ensures { MatchResult result (λ p. Made 1 Statement IsStatement of_statement (Way (a_statement ∷ []) depth s.now i) s.now i used nodes.old nodes.new p) (λ f. Refused (a_statement ∷ []) depth s.now i f) }
+fn block(from: Spot<'_>, nodes: &mut [Node]) -> Result<Parsed, Fault>
+    requires opening { slice_index_or from.symbols.now from.next STOP ≡ BLOCK }
+    requires there { from.next < length from.symbols.now }
+    requires room { Room 1 from nodes.old }
+    ensures { ReadsTo 1 Statement IsStatement of_statement (a_statement ∷ []) from.entry nodes.old nodes.new result }
 {
-    if depth == 0 {
-        return Err(Fault::Deep(i));
+    if from.depth == 0 {
+        return Err(Fault::Deep(from.next));
     }
-    let b = body(s, i + 1, depth - 1, nodes, used)?;
-    if peek(s, b.next) != Symbol::Endblock {
+    let b = body(
+        Spot {
+            next: from.next + 1,
+            depth: from.depth - 1,
+            ..from
+        },
+        nodes,
+    )?;
+    if from.peek(b.next) != Symbol::Endblock {
         return Err(Fault::Syntax(b.next));
     }
     nodes[b.used] = Node::Block(b.root);
@@ -124,22 +121,23 @@ fn block(
 
 /// A condition at i, THEN, and the statements that are obeyed where it holds.
 #[cycle(statements)]
-fn arm(
-    s: &[Symbol],
-    i: usize,
-    depth: usize,
-    nodes: &mut [Node],
-    used: usize,
-) -> Result<Parsed, Fault>
-    requires within { i ≤ length s.now }
-    requires room { used + 2 * length s.now ≤ length nodes.old + 2 * i }
-    ensures { MatchResult result (λ p. Made 0 Arm IsArm of_arm (Way (all ors ∷ tok THEN ∷ all statements ∷ []) depth s.now i) s.now i used nodes.old nodes.new p) (λ f. Refused (all ors ∷ tok THEN ∷ all statements ∷ []) depth s.now i f) }
+fn arm(from: Spot<'_>, nodes: &mut [Node]) -> Result<Parsed, Fault>
+    requires within { from.next ≤ length from.symbols.now }
+    requires room { Room 0 from nodes.old }
+    ensures { ReadsTo 0 Arm IsArm of_arm (all ors ∷ tok THEN ∷ all statements ∷ []) from.entry nodes.old nodes.new result }
 {
-    let c = condition(s, i, depth, nodes, used)?;
-    if peek(s, c.next) != Symbol::Then {
+    let c = condition(from, nodes)?;
+    if from.peek(c.next) != Symbol::Then {
         return Err(Fault::Syntax(c.next));
     }
-    let q = sequence(s, c.next + 1, depth, nodes, c.used)?;
+    let q = sequence(
+        Spot {
+            next: c.next + 1,
+            used: c.used,
+            ..from
+        },
+        nodes,
+    )?;
     nodes[q.used] = Node::When(c.root, q.root);
     Ok(Parsed {
         next: q.next,
@@ -150,22 +148,31 @@ fn arm(
 
 /// IF, being at i, and what follows it up to ELSE or END, ELSEIF included.
 #[cycle(statements)]
-fn arms(
-    s: &[Symbol],
-    i: usize,
-    depth: usize,
-    nodes: &mut [Node],
-    used: usize,
-) -> Result<Parsed, Fault>
-    requires opening { slice_index_or s.now i STOP ≡ IF }
-    requires there { i < length s.now }
-    requires deep { 0 < depth }
-    requires room { used + 2 * length s.now ≤ length nodes.old + 2 * i }
-    ensures { MatchResult result (λ p. Made 0 Arms IsArms of_arms (ArmsWay depth s.now i) s.now i used nodes.old nodes.new p × (p.used + 2 * i < 2 * p.next + used) × (slice_index_or s.now p.next STOP ≢ ELSEIF)) (λ f. Refused (a_statement ∷ []) depth s.now i f) }
+fn arms(from: Spot<'_>, nodes: &mut [Node]) -> Result<Parsed, Fault>
+    requires opening { slice_index_or from.symbols.now from.next STOP ≡ IF }
+    requires there { from.next < length from.symbols.now }
+    requires deep { 0 < from.depth }
+    requires room { Room 0 from nodes.old }
+    ensures { MatchResult result (λ p. Made 0 Arms IsArms of_arms (ArmsWay from.entry.depth from.entry.symbols.now from.entry.next) from.entry.symbols.now from.entry.next from.entry.used nodes.old nodes.new p × (p.used + 2 * from.entry.next < 2 * p.next + from.entry.used) × (slice_index_or from.entry.symbols.now p.next STOP ≢ ELSEIF)) (λ f. Refused (a_statement ∷ []) from.entry.depth from.entry.symbols.now from.entry.next f) }
 {
-    let mut at = arm(s, i + 1, depth - 1, nodes, used)?;
-    while peek(s, at.next) == Symbol::Elseif {
-        let a = arm(s, at.next + 1, depth - 1, nodes, at.used)?;
+    let mut at = arm(
+        Spot {
+            next: from.next + 1,
+            depth: from.depth - 1,
+            ..from
+        },
+        nodes,
+    )?;
+    while from.peek(at.next) == Symbol::Elseif {
+        let a = arm(
+            Spot {
+                next: at.next + 1,
+                depth: from.depth - 1,
+                used: at.used,
+                ..from
+            },
+            nodes,
+        )?;
         nodes[a.used] = Node::Also(at.root, a.root);
         at = Parsed {
             next: a.next,
@@ -178,24 +185,25 @@ fn arms(
 
 /// ELSE, being at the end of `at`, the statements behind it, and END.
 #[cycle(statements)]
-fn otherwise(
-    s: &[Symbol],
-    i: usize,
-    depth: usize,
-    nodes: &mut [Node],
-    used: usize,
-    at: Parsed,
-) -> Result<Parsed, Fault>
-    requires behind { slice_index_or s.now at.next STOP ≡ ELSE }
-    requires there { at.next < length s.now }
-    requires deep { 0 < depth }
-    requires room { used + 1 + 2 * length s.now ≤ length nodes.old + 2 * i }
-    requires few { at.used + 2 * i < 2 * at.next + used }
-    requires begun { Made 0 Arms IsArms of_arms (ArmsWay depth s.now i) s.now i used nodes.old nodes.old at }
-    ensures { MatchResult result (λ p. Made 1 Statement IsStatement of_statement (Way (a_statement ∷ []) depth s.now i) s.now i used nodes.old nodes.new p) (λ f. Refused (a_statement ∷ []) depth s.now i f) }
+fn otherwise(from: Spot<'_>, nodes: &mut [Node], at: Parsed) -> Result<Parsed, Fault>
+    requires behind { slice_index_or from.symbols.now at.next STOP ≡ ELSE }
+    requires there { at.next < length from.symbols.now }
+    requires deep { 0 < from.depth }
+    requires room { Room 1 from nodes.old }
+    requires few { at.used + 2 * from.next < 2 * at.next + from.used }
+    requires begun { Made 0 Arms IsArms of_arms (ArmsWay from.depth from.symbols.now from.next) from.symbols.now from.next from.used nodes.old nodes.old at }
+    ensures { ReadsTo 1 Statement IsStatement of_statement (a_statement ∷ []) from.entry nodes.old nodes.new result }
 {
-    let q = sequence(s, at.next + 1, depth - 1, nodes, at.used)?;
-    if peek(s, q.next) != Symbol::End {
+    let q = sequence(
+        Spot {
+            next: at.next + 1,
+            depth: from.depth - 1,
+            used: at.used,
+            ..from
+        },
+        nodes,
+    )?;
+    if from.peek(q.next) != Symbol::End {
         return Err(Fault::Syntax(q.next));
     }
     nodes[q.used] = Node::BranchElse(at.root, q.root);
@@ -208,23 +216,17 @@ fn otherwise(
 
 /// A branch, IF being at i.
 #[cycle(statements)]
-fn branch(
-    s: &[Symbol],
-    i: usize,
-    depth: usize,
-    nodes: &mut [Node],
-    used: usize,
-) -> Result<Parsed, Fault>
-    requires opening { slice_index_or s.now i STOP ≡ IF }
-    requires there { i < length s.now }
-    requires room { used + 1 + 2 * length s.now ≤ length nodes.old + 2 * i }
-    ensures { MatchResult result (λ p. Made 1 Statement IsStatement of_statement (Way (a_statement ∷ []) depth s.now i) s.now i used nodes.old nodes.new p) (λ f. Refused (a_statement ∷ []) depth s.now i f) }
+fn branch(from: Spot<'_>, nodes: &mut [Node]) -> Result<Parsed, Fault>
+    requires opening { slice_index_or from.symbols.now from.next STOP ≡ IF }
+    requires there { from.next < length from.symbols.now }
+    requires room { Room 1 from nodes.old }
+    ensures { ReadsTo 1 Statement IsStatement of_statement (a_statement ∷ []) from.entry nodes.old nodes.new result }
 {
-    if depth == 0 {
-        return Err(Fault::Deep(i));
+    if from.depth == 0 {
+        return Err(Fault::Deep(from.next));
     }
-    let w = arms(s, i, depth, nodes, used)?;
-    match peek(s, w.next) {
+    let w = arms(from, nodes)?;
+    match from.peek(w.next) {
         Symbol::End => {
             nodes[w.used] = Node::Branch(w.root);
             Ok(Parsed {
@@ -233,34 +235,42 @@ fn branch(
                 root: w.used,
             })
         }
-        Symbol::Else => otherwise(s, i, depth, nodes, used, w),
+        Symbol::Else => otherwise(from, nodes, w),
         _ => Err(Fault::Syntax(w.next)),
     }
 }
 
 /// A loop that counts, TO being at i.
 #[cycle(statements)]
-fn repeat(
-    s: &[Symbol],
-    i: usize,
-    depth: usize,
-    nodes: &mut [Node],
-    used: usize,
-) -> Result<Parsed, Fault>
-    requires opening { slice_index_or s.now i STOP ≡ TO }
-    requires there { i < length s.now }
-    requires room { used + 1 + 2 * length s.now ≤ length nodes.old + 2 * i }
-    ensures { MatchResult result (λ p. Made 1 Statement IsStatement of_statement (Way (a_statement ∷ []) depth s.now i) s.now i used nodes.old nodes.new p) (λ f. Refused (a_statement ∷ []) depth s.now i f) }
+fn repeat(from: Spot<'_>, nodes: &mut [Node]) -> Result<Parsed, Fault>
+    requires opening { slice_index_or from.symbols.now from.next STOP ≡ TO }
+    requires there { from.next < length from.symbols.now }
+    requires room { Room 1 from nodes.old }
+    ensures { ReadsTo 1 Statement IsStatement of_statement (a_statement ∷ []) from.entry nodes.old nodes.new result }
 {
-    let e = expr(s, i + 1, depth, nodes, used)?;
-    if peek(s, e.next) != Symbol::Do {
+    let e = expr(
+        Spot {
+            next: from.next + 1,
+            ..from
+        },
+        nodes,
+    )?;
+    if from.peek(e.next) != Symbol::Do {
         return Err(Fault::Syntax(e.next));
     }
-    if depth == 0 {
+    if from.depth == 0 {
         return Err(Fault::Deep(e.next));
     }
-    let b = body(s, e.next + 1, depth - 1, nodes, e.used)?;
-    if peek(s, b.next) != Symbol::Rep {
+    let b = body(
+        Spot {
+            next: e.next + 1,
+            depth: from.depth - 1,
+            used: e.used,
+            ..from
+        },
+        nodes,
+    )?;
+    if from.peek(b.next) != Symbol::Rep {
         return Err(Fault::Syntax(b.next));
     }
     nodes[b.used] = Node::Repeat(e.root, b.root);
@@ -273,27 +283,35 @@ fn repeat(
 
 /// A loop that goes on while a condition holds, WHILE being at i.
 #[cycle(statements)]
-fn while_loop(
-    s: &[Symbol],
-    i: usize,
-    depth: usize,
-    nodes: &mut [Node],
-    used: usize,
-) -> Result<Parsed, Fault>
-    requires opening { slice_index_or s.now i STOP ≡ WHILE }
-    requires there { i < length s.now }
-    requires room { used + 1 + 2 * length s.now ≤ length nodes.old + 2 * i }
-    ensures { MatchResult result (λ p. Made 1 Statement IsStatement of_statement (Way (a_statement ∷ []) depth s.now i) s.now i used nodes.old nodes.new p) (λ f. Refused (a_statement ∷ []) depth s.now i f) }
+fn while_loop(from: Spot<'_>, nodes: &mut [Node]) -> Result<Parsed, Fault>
+    requires opening { slice_index_or from.symbols.now from.next STOP ≡ WHILE }
+    requires there { from.next < length from.symbols.now }
+    requires room { Room 1 from nodes.old }
+    ensures { ReadsTo 1 Statement IsStatement of_statement (a_statement ∷ []) from.entry nodes.old nodes.new result }
 {
-    let c = condition(s, i + 1, depth, nodes, used)?;
-    if peek(s, c.next) != Symbol::Do {
+    let c = condition(
+        Spot {
+            next: from.next + 1,
+            ..from
+        },
+        nodes,
+    )?;
+    if from.peek(c.next) != Symbol::Do {
         return Err(Fault::Syntax(c.next));
     }
-    if depth == 0 {
+    if from.depth == 0 {
         return Err(Fault::Deep(c.next));
     }
-    let q = sequence(s, c.next + 1, depth - 1, nodes, c.used)?;
-    if peek(s, q.next) != Symbol::Rep {
+    let q = sequence(
+        Spot {
+            next: c.next + 1,
+            depth: from.depth - 1,
+            used: c.used,
+            ..from
+        },
+        nodes,
+    )?;
+    if from.peek(q.next) != Symbol::Rep {
         return Err(Fault::Syntax(q.next));
     }
     nodes[q.used] = Node::Loop(c.root, q.root);
@@ -305,28 +323,28 @@ fn while_loop(
 }
 
 /// RETURN, being at i, with an expression in brackets or without.
-fn returning(
-    s: &[Symbol],
-    i: usize,
-    depth: usize,
-    nodes: &mut [Node],
-    used: usize,
-) -> Result<Parsed, Fault>
-    requires opening { slice_index_or s.now i STOP ≡ RETURN }
-    requires there { i < length s.now }
-    requires room { used + 1 + 2 * length s.now ≤ length nodes.old + 2 * i }
-    ensures { MatchResult result (λ p. Made 1 Statement IsStatement of_statement (Way (a_statement ∷ []) depth s.now i) s.now i used nodes.old nodes.new p) (λ f. Refused (a_statement ∷ []) depth s.now i f) }
+fn returning(from: Spot<'_>, nodes: &mut [Node]) -> Result<Parsed, Fault>
+    requires opening { slice_index_or from.symbols.now from.next STOP ≡ RETURN }
+    requires there { from.next < length from.symbols.now }
+    requires room { Room 1 from nodes.old }
+    ensures { ReadsTo 1 Statement IsStatement of_statement (a_statement ∷ []) from.entry nodes.old nodes.new result }
 {
-    if peek(s, i + 1) != Symbol::Left {
-        nodes[used] = Node::Return(i);
+    if from.peek(from.next + 1) != Symbol::Left {
+        nodes[from.used] = Node::Return(from.next);
         return Ok(Parsed {
-            next: i + 1,
-            used: used + 1,
-            root: used,
+            next: from.next + 1,
+            used: from.used + 1,
+            root: from.used,
         });
     }
-    let e = bracketed(s, i + 1, depth, nodes, used)?;
-    nodes[e.used] = Node::ReturnWith(i, i + 1, e.root);
+    let e = bracketed(
+        Spot {
+            next: from.next + 1,
+            ..from
+        },
+        nodes,
+    )?;
+    nodes[e.used] = Node::ReturnWith(from.next, from.next + 1, e.root);
     Ok(Parsed {
         next: e.next,
         used: e.used + 1,

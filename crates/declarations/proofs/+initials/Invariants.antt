@@ -1,22 +1,23 @@
 use Rattle.std.proofs.Common.{◌+◌, ◌-◌, ◌*◌, length}
 use Rattle.grammar.specs.Machine.{all, entries}
-use Rattle.nodes.proofs.Repeat.{SomeMade, entries_list}
+use Rattle.nodes.proofs.Repeat.{SomeMade}
+use Rattle.nodes.specs.Lists.{entries_list}
 use Rattle.declarations.proofs.+initials.Given as goal
 
 abbrev pub decreases-values : goal.decreases-values
-decreases-values l = 4 * l.depth + 3
+decreases-values l = 4 * l.from.depth + 3
 
 abbrev pub decreases-entry : goal.decreases-entry
-decreases-entry l = 4 * l.depth + 2
+decreases-entry l = 4 * l.from.depth + 2
 
 abbrev pub decreases-value : goal.decreases-value
-decreases-value l = 4 * l.depth + 1
+decreases-value l = 4 * l.from.depth + 1
 
 abbrev pub decreases-list : goal.decreases-list
-decreases-list l = 4 * l.depth
+decreases-list l = 4 * l.from.depth
 
 abbrev pub invariant-values-loop-nodes : goal.invariant-values-loop-nodes
-invariant-values-loop-nodes l = SomeMade 0 entries_list (all entries) l.depth l.s l.i l.used l.initial.nodes l.nodes l.at
+invariant-values-loop-nodes l = SomeMade 0 entries_list (all entries) l.from.depth l.from.symbols.now l.from.next l.from.used l.initial.nodes l.nodes l.at
 
 abbrev pub decreases-values-loop-nodes : goal.decreases-values-loop-nodes
-decreases-values-loop-nodes l = length l.s - l.at.next
+decreases-values-loop-nodes l = length l.from.symbols.now - l.at.next

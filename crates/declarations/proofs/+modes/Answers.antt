@@ -1,103 +1,104 @@
 use Rattle.std.proofs.Common.{◌≡◌, get_or, sym, refl, ◌∙◌, arith}
 use Rattle.std.proofs.lemmas.Result.{err_from_is_err_and}
 use Rattle.grammar.specs.Symbols.{STOP, NAME, INT, BYTE, LEFT, RIGHT}
-use Rattle.nodes.proofs.Results.{otherwise, differs, agrees}
+use Rattle.nodes.proofs.Results.{otherwise}
 use Rattle.nodes.proofs.Build.{far}
 use Rattle.declarations.proofs.Modes.{mode_none, simple_refused, made_simple, made_int, made_byte, made_records, target_none, made_ref_int, made_ref_byte, made_ref_record, bare_refused, made_array, dims_deep, dims_unclosed, dims_refused, made_brackets}
+use Rattle.grammar.proofs.Tests.{said, differs, agrees}
 use Rattle.declarations.proofs.+modes.Goals as goal
 
 pub mode-returns-in-Int : goal.mode-returns-in-Int
 mode-returns-in-Int t c =
     let n = c.in-Int.ensures in
-    made_int c.args.depth c.args.s.now c.args.i c.args.used c.args.nodes.now (n.there (far INT _ refl refl)) (sym n.is) (omega (arith, n.there (far INT _ refl refl)))
+    made_int c.args.from.depth c.args.from.symbols.now c.args.from.next c.args.from.used c.args.nodes.now (n.there (far INT _ refl refl)) (sym n.is) (omega (arith, n.there (far INT _ refl refl)))
 
 pub mode-returns-in-Byte : goal.mode-returns-in-Byte
 mode-returns-in-Byte t c =
     let n = c.in-Byte.ensures in
-    made_byte c.args.depth c.args.s.now c.args.i c.args.used c.args.nodes.now (n.there (far BYTE _ refl refl)) (sym n.is) (omega (arith, n.there (far BYTE _ refl refl)))
+    made_byte c.args.from.depth c.args.from.symbols.now c.args.from.next c.args.from.used c.args.nodes.now (n.there (far BYTE _ refl refl)) (sym n.is) (omega (arith, n.there (far BYTE _ refl refl)))
 
 pub mode-returns-in_default : goal.mode-returns-in_default
 mode-returns-in_default t c =
     let is = c.peek.ensures.is in
-    mode_none c.args.depth c.args.s.now c.args.i (λ e. c.in_default.not-Int (is ∙ e)) (λ e. c.in_default.not-Byte (is ∙ e)) (λ e. c.in_default.not-Ref (is ∙ e))
+    mode_none c.args.from.depth c.args.from.symbols.now c.args.from.next (λ e. c.in_default.not-Int (is ∙ e)) (λ e. c.in_default.not-Byte (is ∙ e)) (λ e. c.in_default.not-Ref (is ∙ e))
 
 pub reference-returns-in-Int : goal.reference-returns-in-Int
 reference-returns-in-Int t c =
     let n = c.in-Int.ensures in
     let h = n.there (far INT _ refl refl) in
-    made_ref_int c.args.depth c.args.s.now c.args.i c.args.used c.args.nodes.now c.requires.there c.requires.refers h (sym n.is) (omega (arith, h))
+    made_ref_int c.args.from.depth c.args.from.symbols.now c.args.from.next c.args.from.used c.args.nodes.now c.requires.there c.requires.refers h (sym n.is) (omega (arith, h))
 
 pub reference-returns-in-Byte : goal.reference-returns-in-Byte
 reference-returns-in-Byte t c =
     let n = c.in-Byte.ensures in
     let h = n.there (far BYTE _ refl refl) in
-    made_ref_byte c.args.depth c.args.s.now c.args.i c.args.used c.args.nodes.now c.requires.there c.requires.refers h (sym n.is) (omega (arith, h))
+    made_ref_byte c.args.from.depth c.args.from.symbols.now c.args.from.next c.args.from.used c.args.nodes.now c.requires.there c.requires.refers h (sym n.is) (omega (arith, h))
 
 pub reference-returns-in-Name : goal.reference-returns-in-Name
 reference-returns-in-Name t c =
     let n = c.in-Name.ensures in
     let h = n.there (far NAME _ refl refl) in
-    made_ref_record c.args.depth c.args.s.now c.args.i c.args.used c.args.nodes.now c.requires.there c.requires.refers h (sym n.is) (omega (arith, h))
+    made_ref_record c.args.from.depth c.args.from.symbols.now c.args.from.next c.args.from.used c.args.nodes.now c.requires.there c.requires.refers h (sym n.is) (omega (arith, h))
 
 pub reference-returns-in_default : goal.reference-returns-in_default
 reference-returns-in_default t c =
     let is = c.peek.ensures.is in
-    target_none c.args.depth c.args.s.now c.args.i c.args.used c.args.nodes.now c.requires.there c.requires.refers (λ e. c.in_default.not-Int (is ∙ e)) (λ e. c.in_default.not-Byte (is ∙ e)) (λ e. c.in_default.not-Name (is ∙ e)) (λ e. c.in_default.not-Array (is ∙ e))
+    target_none c.args.from.depth c.args.from.symbols.now c.args.from.next c.args.from.used c.args.nodes.now c.requires.there c.requires.refers (λ e. c.in_default.not-Int (is ∙ e)) (λ e. c.in_default.not-Byte (is ∙ e)) (λ e. c.in_default.not-Name (is ∙ e)) (λ e. c.in_default.not-Array (is ∙ e))
 
 pub amode-returns-then-eq : goal.amode-returns-then-eq
 amode-returns-then-eq t c =
-    let e = c.if-eq.ensures.says in
+    let e = (said _ _ _ c.if-eq.ensures) in
     let h = c.peek.ensures.there (far NAME _ refl e) in
-    made_records c.args.depth c.args.s.now c.args.i c.args.used c.args.nodes.now h (sym c.peek.ensures.is ∙ e) (omega (arith, h))
+    made_records c.args.from.depth c.args.from.symbols.now c.args.from.next c.args.from.used c.args.nodes.now h (sym c.peek.ensures.is ∙ e) (omega (arith, h))
 
 pub amode-returns : goal.amode-returns
 amode-returns t c =
-    let n = (λ (e : get_or c.args.s.now c.args.i STOP ≡ NAME). c.if-eq.ensures.says (c.peek.ensures.is ∙ e)) in
-    otherwise c.mode.result (λ p m. made_simple c.args.depth c.args.s.now c.args.i n c.args.used _ _ p m) (λ f r. simple_refused c.args.depth c.args.s.now c.args.i n f r) c.mode.ensures
+    let n = (λ (e : get_or c.args.from.symbols.now c.args.from.next STOP ≡ NAME). (said _ _ _ c.if-eq.ensures) (c.peek.ensures.is ∙ e)) in
+    otherwise c.mode.result (λ p m. made_simple c.args.from.depth c.args.from.symbols.now c.args.from.next n c.args.from.used _ _ p m) (λ f r. simple_refused c.args.from.depth c.args.from.symbols.now c.args.from.next n f r) c.mode.ensures
 
 pub array_mode-returns-in_err-m : goal.array_mode-returns-in_err-m
 array_mode-returns-in_err-m t c =
     let u = c.if-ne.ensures in
     let p = err_from_is_err_and c.from_residual.result c.from_residual.ensures.1 in
-    rw (p.1, p.2) (bare_refused c.args.depth c.args.s.now c.args.i c.args.used c.args.nodes.now (omega (arith, c.requires.there)) c.requires.refers c.requires.there c.requires.array (λ e. differs u (c.peek.ensures.is ∙ e)) _ c.in_err-m.ensures)
+    rw (p.1, p.2) (bare_refused c.args.from.depth c.args.from.symbols.now c.args.from.next c.args.from.used c.args.nodes.now (omega (arith, c.requires.there)) c.requires.refers c.requires.there c.requires.array (λ e. differs _ _ u (c.peek.ensures.is ∙ e)) _ c.in_err-m.ensures)
 
 pub array_mode-returns-then-ne : goal.array_mode-returns-then-ne
 array_mode-returns-then-ne t c =
     let u = c.if-ne.ensures in
-    made_array c.args.depth c.args.s.now c.args.i c.args.used c.args.nodes.now (omega (arith, c.requires.there)) c.requires.refers c.requires.there c.requires.array (λ e. differs u (c.peek.ensures.is ∙ e)) _ c.in_ok-m.m (omega (arith, c.in_ok-m.ensures)) c.in_ok-m.ensures
+    made_array c.args.from.depth c.args.from.symbols.now c.args.from.next c.args.from.used c.args.nodes.now (omega (arith, c.requires.there)) c.requires.refers c.requires.there c.requires.array (λ e. differs _ _ u (c.peek.ensures.is ∙ e)) _ c.in_ok-m.m (omega (arith, c.in_ok-m.ensures)) c.in_ok-m.ensures
 
-pub array_mode-returns-then-depth-eq0 : goal.array_mode-returns-then-depth-eq0
-array_mode-returns-then-depth-eq0 t c =
+pub array_mode-returns-then-from-eq0 : goal.array_mode-returns-then-from-eq0
+array_mode-returns-then-from-eq0 t c =
     let u = c.if-ne.ensures in
-    let e = agrees u in
+    let e = agrees _ _ u in
     let h = c.peek.ensures.there (far LEFT _ refl e) in
-    dims_deep c.args.depth c.args.s.now c.args.i c.args.used c.args.nodes.now (omega (arith, c.requires.there)) c.requires.refers c.requires.there c.requires.array h (sym c.peek.ensures.is ∙ e) c.if-depth-eq0.true
+    dims_deep c.args.from.depth c.args.from.symbols.now c.args.from.next c.args.from.used c.args.nodes.now (omega (arith, c.requires.there)) c.requires.refers c.requires.there c.requires.array h (sym c.peek.ensures.is ∙ e) c.if-from-eq0.true
 
 pub array_mode-returns-then-ne-2 : goal.array_mode-returns-then-ne-2
 array_mode-returns-then-ne-2 t c =
     let u = c.if-ne.ensures in
-    let e = agrees u in
+    let e = agrees _ _ u in
     let h = c.peek.ensures.there (far LEFT _ refl e) in
     let v = c.if-ne-2.ensures in
-    dims_unclosed c.args.depth c.args.s.now c.args.i c.args.used c.args.nodes.now (omega (arith, c.requires.there)) c.requires.refers c.requires.there c.requires.array h (sym c.peek.ensures.is ∙ e) (omega arith) (λ x. differs v (c.peek-2.ensures.is ∙ x))
+    dims_unclosed c.args.from.depth c.args.from.symbols.now c.args.from.next c.args.from.used c.args.nodes.now (omega (arith, c.requires.there)) c.requires.refers c.requires.there c.requires.array h (sym c.peek.ensures.is ∙ e) (omega arith) (λ x. differs _ _ v (c.peek-2.ensures.is ∙ x))
 
 pub array_mode-returns-in_err-m-2 : goal.array_mode-returns-in_err-m-2
 array_mode-returns-in_err-m-2 t c =
     let u = c.if-ne.ensures in
-    let e = agrees u in
+    let e = agrees _ _ u in
     let h = c.peek.ensures.there (far LEFT _ refl e) in
     let v = c.if-ne-2.ensures in
-    let x = agrees v in
+    let x = agrees _ _ v in
     let k = c.peek-2.ensures.there (far RIGHT _ refl x) in
     let p = err_from_is_err_and c.from_residual-in_err-m-2.result c.from_residual-in_err-m-2.ensures.1 in
-    rw (p.1, p.2) (dims_refused c.args.depth c.args.s.now c.args.i c.args.used c.args.nodes.now (omega (arith, c.requires.there)) c.requires.refers c.requires.there c.requires.array h (sym c.peek.ensures.is ∙ e) (omega arith) k (sym c.peek-2.ensures.is ∙ x) _ c.in_err-m-2.ensures)
+    rw (p.1, p.2) (dims_refused c.args.from.depth c.args.from.symbols.now c.args.from.next c.args.from.used c.args.nodes.now (omega (arith, c.requires.there)) c.requires.refers c.requires.there c.requires.array h (sym c.peek.ensures.is ∙ e) (omega arith) k (sym c.peek-2.ensures.is ∙ x) _ c.in_err-m-2.ensures)
 
 pub array_mode-returns : goal.array_mode-returns
 array_mode-returns t c =
     let u = c.if-ne.ensures in
-    let e = agrees u in
+    let e = agrees _ _ u in
     let h = c.peek.ensures.there (far LEFT _ refl e) in
     let v = c.if-ne-2.ensures in
-    let x = agrees v in
+    let x = agrees _ _ v in
     let k = c.peek-2.ensures.there (far RIGHT _ refl x) in
-    made_brackets c.args.depth c.args.s.now c.args.i c.args.used c.args.nodes.now (omega (arith, c.requires.there)) c.requires.refers c.requires.there c.requires.array h (sym c.peek.ensures.is ∙ e) (omega arith) k (sym c.peek-2.ensures.is ∙ x) _ c.in_ok-m-2.m (omega (arith, c.in_ok-m-2.ensures)) c.in_ok-m-2.ensures
+    made_brackets c.args.from.depth c.args.from.symbols.now c.args.from.next c.args.from.used c.args.nodes.now (omega (arith, c.requires.there)) c.requires.refers c.requires.there c.requires.array h (sym c.peek.ensures.is ∙ e) (omega arith) k (sym c.peek-2.ensures.is ∙ x) _ c.in_ok-m-2.m (omega (arith, c.in_ok-m-2.ensures)) c.in_ok-m-2.ensures

@@ -1,31 +1,31 @@
 use Rattle.std.proofs.Common.{sym, refl, ◌∙◌, arith}
 use Rattle.std.proofs.lemmas.Result.{err_from_is_err_and}
 use Rattle.grammar.specs.Symbols.{NAME}
-use Rattle.nodes.proofs.Results.{differs, agrees}
 use Rattle.nodes.proofs.Build.{far}
 use Rattle.nodes.proofs.Build.{rebased}
 use Rattle.nodes.proofs.Keep.{agree_set, agree_trans}
 use Rattle.declarations.proofs.Components.{first_mode_refused, first_no_name, made_field, fields_end}
+use Rattle.grammar.proofs.Tests.{said, differs, agrees}
 use Rattle.declarations.proofs.fields.Goals as goal
 
 pub returns-in_err-m : goal.returns-in_err-m
 returns-in_err-m c =
     let p = err_from_is_err_and c.from_residual.result c.from_residual.ensures.1 in
-    rw (p.1, p.2) (first_mode_refused c.args.depth c.args.s.now c.args.i c.args.used _ c.in_err-m.ensures)
+    rw (p.1, p.2) (first_mode_refused c.args.from.depth c.args.from.symbols.now c.args.from.next c.args.from.used _ c.in_err-m.ensures)
 
 pub returns-then-ne : goal.returns-then-ne
 returns-then-ne c =
     let u = c.if-ne.ensures in
-    first_no_name c.args.depth c.args.s.now c.args.i c.args.used _ _ c.in_ok-m.m c.in_ok-m.ensures (λ e. differs u (c.peek.ensures.is ∙ e))
+    first_no_name c.args.from.depth c.args.from.symbols.now c.args.from.next c.args.from.used _ _ c.in_ok-m.m c.in_ok-m.ensures (λ e. differs _ _ u (c.peek.ensures.is ∙ e))
 
-pub loop-nodes-init : goal.loop-nodes-init
-loop-nodes-init c =
+pub loop-from-init : goal.loop-from-init
+loop-from-init c =
     let u = c.if-ne.ensures in
-    let e = agrees u in
+    let e = agrees _ _ u in
     let h = c.peek.ensures.there (far NAME _ refl e) in
-    rebased 0 _ _ _ _ _ _ _ _ _ _ (λ j l. refl) (made_field c.args.depth c.args.s.now c.args.i c.args.used _ _ c.in_ok-m.m c.in_ok-m.ensures h (sym c.peek.ensures.is ∙ e) (omega (arith, h, c.in_ok-m.ensures)))
+    rebased 0 _ _ _ _ _ _ _ _ _ _ (λ j l. refl) (made_field c.args.from.depth c.args.from.symbols.now c.args.from.next c.args.from.used _ _ c.in_ok-m.m c.in_ok-m.ensures h (sym c.peek.ensures.is ∙ e) (omega (arith, h, c.in_ok-m.ensures)))
 
 pub returns : goal.returns
 returns c =
     let m = c.in_ok-m.ensures in
-    fields_end c.args.depth c.args.s.now c.args.i c.args.used _ _ c.loop-nodes.at c.loop-nodes.invariant _ (agree_trans c.args.used c.args.used _ _ _ (omega arith) m.kept (agree_set c.args.used c.in_ok-m.m.used _ _ (omega (arith, m.more)))) (λ e. c.loop-nodes-test.ensures.says (c.peek-in-loop-nodes.ensures.is ∙ e))
+    fields_end c.args.from.depth c.args.from.symbols.now c.args.from.next c.args.from.used _ _ c.loop-from.at c.loop-from.invariant _ (agree_trans c.args.from.used c.args.from.used _ _ _ (omega arith) m.kept (agree_set c.args.from.used c.in_ok-m.m.used _ _ (omega (arith, m.more)))) (λ e. (said _ _ _ c.loop-from-test.ensures) (c.peek-in-loop-from.ensures.is ∙ e))

@@ -1,31 +1,31 @@
 use Rattle.std.proofs.Common.{sym, refl, ◌∙◌, arith}
 use Rattle.std.proofs.lemmas.Result.{err_from_is_err_and}
 use Rattle.grammar.specs.Symbols.{NAME}
-use Rattle.nodes.proofs.Results.{differs, agrees}
 use Rattle.nodes.proofs.Build.{far}
 use Rattle.declarations.proofs.Components.{made_also, further_refused, further_no_name, made_next}
+use Rattle.grammar.proofs.Tests.{said, differs, agrees}
 use Rattle.declarations.proofs.further.Goals as goal
 
 pub returns-then-eq : goal.returns-then-eq
 returns-then-eq c =
-    let e = c.if-eq.ensures.says in
+    let e = (said _ _ _ c.if-eq.ensures) in
     let h = c.peek.ensures.there (far NAME _ refl e) in
-    (made_also c.args.depth c.args.s.now c.args.i c.args.used _ _ c.args.at c.requires.begun c.requires.there c.requires.comma h (sym c.peek.ensures.is ∙ e) (omega (arith, h, c.requires.begun.few)), omega arith)
+    (made_also c.args.from.depth c.args.from.symbols.now c.args.from.next c.args.from.used _ _ c.args.at c.requires.begun c.requires.there c.requires.comma h (sym c.peek.ensures.is ∙ e) (omega (arith, h, c.requires.begun.few)), omega arith)
 
 pub returns-in_err-m : goal.returns-in_err-m
 returns-in_err-m c =
     let p = err_from_is_err_and c.from_residual.result c.from_residual.ensures.1 in
-    rw (p.1, p.2) (further_refused c.args.depth c.args.s.now c.args.i c.args.used _ _ c.args.at c.requires.begun c.requires.there c.requires.comma (λ e. c.if-eq.ensures.says (c.peek.ensures.is ∙ e)) _ c.in_err-m.ensures)
+    rw (p.1, p.2) (further_refused c.args.from.depth c.args.from.symbols.now c.args.from.next c.args.from.used _ _ c.args.at c.requires.begun c.requires.there c.requires.comma (λ e. (said _ _ _ c.if-eq.ensures) (c.peek.ensures.is ∙ e)) _ c.in_err-m.ensures)
 
 pub returns-then-ne : goal.returns-then-ne
 returns-then-ne c =
     let u = c.if-ne.ensures in
-    further_no_name c.args.depth c.args.s.now c.args.i c.args.used _ _ c.args.at c.requires.begun c.requires.there c.requires.comma (λ e. c.if-eq.ensures.says (c.peek.ensures.is ∙ e)) _ c.in_ok-m.m c.in_ok-m.ensures (λ e. differs u (c.peek-2.ensures.is ∙ e))
+    further_no_name c.args.from.depth c.args.from.symbols.now c.args.from.next c.args.from.used _ _ c.args.at c.requires.begun c.requires.there c.requires.comma (λ e. (said _ _ _ c.if-eq.ensures) (c.peek.ensures.is ∙ e)) _ c.in_ok-m.m c.in_ok-m.ensures (λ e. differs _ _ u (c.peek-2.ensures.is ∙ e))
 
 pub returns : goal.returns
 returns c =
     let u = c.if-ne.ensures in
-    let e = agrees u in
+    let e = agrees _ _ u in
     let h = c.peek-2.ensures.there (far NAME _ refl e) in
     let m = c.in_ok-m.ensures in
-    (made_next c.args.depth c.args.s.now c.args.i c.args.used _ _ c.args.at c.requires.begun c.requires.there c.requires.comma (λ e. c.if-eq.ensures.says (c.peek.ensures.is ∙ e)) _ c.in_ok-m.m m h (sym c.peek-2.ensures.is ∙ e) (omega (arith, h, m.few, c.requires.begun.few)), omega (arith, m.few, m.more))
+    (made_next c.args.from.depth c.args.from.symbols.now c.args.from.next c.args.from.used _ _ c.args.at c.requires.begun c.requires.there c.requires.comma (λ e. (said _ _ _ c.if-eq.ensures) (c.peek.ensures.is ∙ e)) _ c.in_ok-m.m m h (sym c.peek-2.ensures.is ∙ e) (omega (arith, h, m.few, c.requires.begun.few)), omega (arith, m.few, m.more))

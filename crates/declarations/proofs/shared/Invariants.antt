@@ -3,7 +3,7 @@ use Rattle.declarations.proofs.Sharing.{NamesMade}
 use Rattle.declarations.proofs.shared.Given as goal
 
 abbrev pub invariant-loop-nodes : goal.invariant-loop-nodes
-invariant-loop-nodes l = NamesMade l.s l.i l.used l.initial.nodes l.nodes l.at × (l.at.used + 2 * l.i < 2 * l.at.next + l.used)
+invariant-loop-nodes l = NamesMade l.from.symbols.now l.from.next l.from.used l.initial.nodes l.nodes l.at × (l.at.used + 2 * l.from.next < 2 * l.at.next + l.from.used)
 
 abbrev pub decreases-loop-nodes : goal.decreases-loop-nodes
-decreases-loop-nodes l = length l.s - l.at.next
+decreases-loop-nodes l = length l.from.symbols.now - l.at.next

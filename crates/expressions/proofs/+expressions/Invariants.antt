@@ -8,58 +8,58 @@ use Rattle.expressions.proofs.Forms.{VariableMade}
 use Rattle.expressions.proofs.+expressions.Given as goal
 
 abbrev pub decreases-expr : goal.decreases-expr
-decreases-expr l = 16 * l.depth + 15
+decreases-expr l = 16 * l.from.depth + 15
 
 abbrev pub decreases-level : goal.decreases-level
-decreases-level l = 16 * l.depth + 9 + l.n
+decreases-level l = 16 * l.from.depth + 9 + l.n
 
 abbrev pub decreases-term : goal.decreases-term
-decreases-term l = 16 * l.depth + 8
+decreases-term l = 16 * l.from.depth + 8
 
 abbrev pub decreases-primary : goal.decreases-primary
-decreases-primary l = 16 * l.depth + 7
+decreases-primary l = 16 * l.from.depth + 7
 
 abbrev pub decreases-form : goal.decreases-form
-decreases-form l = 16 * l.depth + 6
+decreases-form l = 16 * l.from.depth + 6
 
 abbrev pub decreases-applied : goal.decreases-applied
-decreases-applied l = 16 * l.depth + 5
+decreases-applied l = 16 * l.from.depth + 5
 
 abbrev pub decreases-variable : goal.decreases-variable
-decreases-variable l = 16 * l.depth + 4
+decreases-variable l = 16 * l.from.depth + 4
 
 abbrev pub decreases-calls : goal.decreases-calls
-decreases-calls l = 16 * l.depth + 3
+decreases-calls l = 16 * l.from.depth + 3
 
 abbrev pub decreases-bracketed : goal.decreases-bracketed
-decreases-bracketed l = 16 * l.depth + 2
+decreases-bracketed l = 16 * l.from.depth + 2
 
 abbrev pub invariant-calls-loop-nodes : goal.invariant-calls-loop-nodes
-invariant-calls-loop-nodes l = Made 0 Exprs IsExprs of_exprs (ArgsWay l.depth l.s l.i) l.s (l.i + 2) (l.used + 1) l.initial.nodes l.nodes l.at
+invariant-calls-loop-nodes l = Made 0 Exprs IsExprs of_exprs (ArgsWay l.from.depth l.from.symbols.now l.from.next) l.from.symbols.now (l.from.next + 2) (l.from.used + 1) l.initial.nodes l.nodes l.at
 
 abbrev pub decreases-calls-loop-nodes : goal.decreases-calls-loop-nodes
-decreases-calls-loop-nodes l = length l.s - l.at.next
+decreases-calls-loop-nodes l = length l.from.symbols.now - l.at.next
 
 abbrev pub invariant-level-loop-nodes : goal.invariant-level-loop-nodes
-invariant-level-loop-nodes l = Made 0 (Expr (suc (l.n - 1))) IsExpr of_expr (LevelWay (l.n - 1) l.depth l.s l.i) l.s l.i l.used l.initial.nodes l.nodes l.at
+invariant-level-loop-nodes l = Made 0 (Expr (suc (l.n - 1))) IsExpr of_expr (LevelWay (l.n - 1) l.from.depth l.from.symbols.now l.from.next) l.from.symbols.now l.from.next l.from.used l.initial.nodes l.nodes l.at
 
 abbrev pub decreases-level-loop-nodes : goal.decreases-level-loop-nodes
-decreases-level-loop-nodes l = length l.s - l.at.next
+decreases-level-loop-nodes l = length l.from.symbols.now - l.at.next
 
 abbrev pub invariant-term-loop-k : goal.invariant-term-loop-k
-invariant-term-loop-k l = Monads l.depth l.s l.i l.k
+invariant-term-loop-k l = Monads l.from.depth l.from.symbols.now l.from.next l.k
 
 abbrev pub decreases-term-loop-k : goal.decreases-term-loop-k
-decreases-term-loop-k l = length l.s - l.k
+decreases-term-loop-k l = length l.from.symbols.now - l.k
 
 abbrev pub invariant-term-loop-k-2 : goal.invariant-term-loop-k-2
-invariant-term-loop-k-2 l = (l.i ≤ l.k) × Made 0 Term IsTerm of_term (Way (a_term ∷ []) l.depth l.s l.k) l.s l.k l.used l.initial.nodes l.nodes l.at × ((j : ℕ) → l.i ≤ j → j < l.k → among monadics (get_or l.s j STOP) ≡ true)
+invariant-term-loop-k-2 l = (l.from.next ≤ l.k) × Made 0 Term IsTerm of_term (Way (a_term ∷ []) l.from.depth l.from.symbols.now l.k) l.from.symbols.now l.k l.from.used l.initial.nodes l.nodes l.at × ((j : ℕ) → l.from.next ≤ j → j < l.k → among monadics (get_or l.from.symbols.now j STOP) ≡ true)
 
 abbrev pub decreases-term-loop-k-2 : goal.decreases-term-loop-k-2
-decreases-term-loop-k-2 l = l.k - l.i
+decreases-term-loop-k-2 l = l.k - l.from.next
 
 abbrev pub invariant-variable-loop-nodes : goal.invariant-variable-loop-nodes
-invariant-variable-loop-nodes l = Counted l.s l.i l.used l.at × ((b : Opening) → VariableMade b l.depth l.s l.i l.used l.initial.nodes l.initial.nodes l.initial.at → VariableMade b l.depth l.s l.i l.used l.initial.nodes l.nodes l.at)
+invariant-variable-loop-nodes l = Counted l.from.symbols.now l.from.next l.from.used l.at × ((b : Opening) → VariableMade b l.from.depth l.from.symbols.now l.from.next l.from.used l.initial.nodes l.initial.nodes l.initial.at → VariableMade b l.from.depth l.from.symbols.now l.from.next l.from.used l.initial.nodes l.nodes l.at)
 
 abbrev pub decreases-variable-loop-nodes : goal.decreases-variable-loop-nodes
-decreases-variable-loop-nodes l = length l.s - l.at.next
+decreases-variable-loop-nodes l = length l.from.symbols.now - l.at.next

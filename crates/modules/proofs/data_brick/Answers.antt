@@ -6,9 +6,9 @@ use Rattle.modules.proofs.data_brick.Goals as goal
 pub returns-in_err-d : goal.returns-in_err-d
 returns-in_err-d c =
     let p = err_from_is_err_and c.from_residual.result c.from_residual.ensures.1 in
-    rw (p.1, p.2) (data_refused c.args.depth c.args.s.now c.args.i c.args.used c.requires.there c.requires.opening _ c.in_err-d.ensures)
+    rw (p.1, p.2) (data_refused c.args.from.depth c.args.from.symbols.now c.args.from.next c.args.from.used c.requires.there c.requires.opening _ c.in_err-d.ensures)
 
 pub returns : goal.returns
 returns c =
     let m = c.in_ok-d.ensures in
-    made_data c.args.depth c.args.s.now c.args.i c.args.used c.requires.there c.requires.opening _ _ c.in_ok-d.d (omega (arith, m.few, m.within, c.requires.room)) m
+    made_data c.args.from.depth c.args.from.symbols.now c.args.from.next c.args.from.used c.requires.there c.requires.opening _ _ c.in_ok-d.d (omega (arith, m.few, m.within, c.requires.room)) m

@@ -6,9 +6,9 @@ use Rattle.modules.proofs.entered.Goals as goal
 pub returns-in_err-b : goal.returns-in_err-b
 returns-in_err-b c =
     let p = err_from_is_err_and c.from_residual.result c.from_residual.ensures.1 in
-    rw (p.1, p.2) (ent_refused c.args.depth c.args.s.now c.args.i c.args.used c.requires.there c.requires.opening _ c.in_err-b.ensures)
+    rw (p.1, p.2) (ent_refused c.args.from.depth c.args.from.symbols.now c.args.from.next c.args.from.used c.requires.there c.requires.opening _ c.in_err-b.ensures)
 
 pub returns : goal.returns
 returns c =
     let m = c.in_ok-b.ensures in
-    made_entry c.args.depth c.args.s.now c.args.i c.args.used c.requires.there c.requires.opening _ _ c.in_ok-b.b (omega (arith, m.1, m.0.within, c.requires.room)) m.0
+    made_entry c.args.from.depth c.args.from.symbols.now c.args.from.next c.args.from.used c.requires.there c.requires.opening _ _ c.in_ok-b.b (omega (arith, m.1, m.0.within, c.requires.room)) m.0

@@ -13,10 +13,10 @@ pub returns-then-begins_mode : goal.returns-then-begins_mode
 returns-then-begins_mode c =
     let q : among mode_firsts c.peek.result ≡ true = sym c.begins_mode.ensures ∙ c.if-begins_mode.true in
     let h = c.peek.ensures.there (λ e. clash q (ap (among mode_firsts) e)) in
-    let w = modes_there c.args.depth c.args.s.now c.args.i h (ap (among mode_firsts) (sym c.peek.ensures.is) ∙ q) in
-    otherwise c.modes.result (λ p m. present (IsMany IsMode) (of_many of_mode COMMA) maybe_modes (all modes) c.args.depth c.args.s.now c.args.i c.args.used w _ _ p m) (λ f r. present_refused (IsMany IsMode) (of_many of_mode COMMA) maybe_modes (all modes) c.args.depth c.args.s.now c.args.i c.args.used w f r) c.modes.ensures
+    let w = modes_there c.args.from.depth c.args.from.symbols.now c.args.from.next h (ap (among mode_firsts) (sym c.peek.ensures.is) ∙ q) in
+    otherwise c.modes.result (λ p m. present (IsMany IsMode) (of_many of_mode COMMA) maybe_modes (all modes) c.args.from.depth c.args.from.symbols.now c.args.from.next c.args.from.used w _ _ p m) (λ f r. present_refused (IsMany IsMode) (of_many of_mode COMMA) maybe_modes (all modes) c.args.from.depth c.args.from.symbols.now c.args.from.next c.args.from.used w f r) c.modes.ensures
 
 pub returns : goal.returns
 returns c =
     let q : among mode_firsts c.peek.result ≡ false = sym c.begins_mode.ensures ∙ c.if-begins_mode.false in
-    absent (IsMany IsMode) (of_many of_mode COMMA) maybe_modes (all modes) c.args.depth c.args.s.now c.args.i c.args.used (no_modes_there c.args.depth c.args.s.now c.args.i (ap (among mode_firsts) (sym c.peek.ensures.is) ∙ q)) c.args.nodes.now c.requires.within (omega arith)
+    absent (IsMany IsMode) (of_many of_mode COMMA) maybe_modes (all modes) c.args.from.depth c.args.from.symbols.now c.args.from.next c.args.from.used (no_modes_there c.args.from.depth c.args.from.symbols.now c.args.from.next (ap (among mode_firsts) (sym c.peek.ensures.is) ∙ q)) c.args.nodes.now c.requires.within (omega arith)

@@ -1,10 +1,11 @@
 use Rattle.std.proofs.Common.{◌-◌, length}
 use Rattle.grammar.specs.Machine.{all, modes}
-use Rattle.nodes.proofs.Repeat.{SomeMade, modes_list}
+use Rattle.nodes.proofs.Repeat.{SomeMade}
+use Rattle.nodes.specs.Lists.{modes_list}
 use Rattle.declarations.proofs.bricks.modes.Given as goal
 
 abbrev pub invariant-loop-nodes : goal.invariant-loop-nodes
-invariant-loop-nodes l = SomeMade 0 modes_list (all modes) l.depth l.s l.i l.used l.initial.nodes l.nodes l.at
+invariant-loop-nodes l = SomeMade 0 modes_list (all modes) l.from.depth l.from.symbols.now l.from.next l.from.used l.initial.nodes l.nodes l.at
 
 abbrev pub decreases-loop-nodes : goal.decreases-loop-nodes
-decreases-loop-nodes l = length l.s - l.at.next
+decreases-loop-nodes l = length l.from.symbols.now - l.at.next

@@ -6,7 +6,7 @@ use Rattle.declarations.proofs.bricks.structures.Goals as goal
 pub returns-in_err-n : goal.returns-in_err-n
 returns-in_err-n c =
     let p = err_from_is_err_and c.from_residual.result c.from_residual.ensures.1 in
-    rw (p.1, p.2) (records_refused c.args.how c.args.depth c.args.s.now c.args.i c.args.used c.requires.there c.requires.name _ c.in_err-n.ensures)
+    rw (p.1, p.2) (records_refused c.args.how c.args.from.depth c.args.from.symbols.now c.args.from.next c.args.from.used c.requires.there c.requires.name _ c.in_err-n.ensures)
 
 pub returns : goal.returns
-returns c = made_structures c.args.how c.args.depth c.args.s.now c.args.i c.args.used c.requires.there c.requires.name _ _ c.in_ok-n.n (omega (arith, c.in_ok-n.ensures)) c.in_ok-n.ensures
+returns c = made_structures c.args.how c.args.from.depth c.args.from.symbols.now c.args.from.next c.args.from.used c.requires.there c.requires.name _ _ c.in_ok-n.n (omega (arith, c.in_ok-n.ensures)) c.in_ok-n.ensures

@@ -1,31 +1,31 @@
 use Rattle.std.proofs.Common.{sym, refl, ◌∙◌, arith}
 use Rattle.std.proofs.lemmas.Result.{err_from_is_err_and}
 use Rattle.grammar.specs.Symbols.{SEMI}
-use Rattle.nodes.proofs.Results.{differs, agrees}
 use Rattle.nodes.proofs.Build.{far}
 use Rattle.declarations.proofs.Bodies.{mode_refused, inits_refused, local_unended, made_local}
+use Rattle.grammar.proofs.Tests.{differs, agrees}
 use Rattle.declarations.proofs.locals.local.Goals as goal
 
 pub returns-in_err-m : goal.returns-in_err-m
 returns-in_err-m c =
     let p = err_from_is_err_and c.from_residual.result c.from_residual.ensures.1 in
-    rw (p.1, p.2) (mode_refused c.args.depth c.args.s.now c.args.i c.args.used c.requires.there c.requires.begins _ c.in_err-m.ensures)
+    rw (p.1, p.2) (mode_refused c.args.from.depth c.args.from.symbols.now c.args.from.next c.args.from.used c.requires.there c.requires.begins _ c.in_err-m.ensures)
 
 pub returns-in_err-n : goal.returns-in_err-n
 returns-in_err-n c =
     let p = err_from_is_err_and c.from_residual-in_err-n.result c.from_residual-in_err-n.ensures.1 in
-    rw (p.1, p.2) (inits_refused c.args.depth c.args.s.now c.args.i c.args.used c.requires.there c.requires.begins _ _ c.in_ok-m.m c.in_ok-m.ensures _ c.in_err-n.ensures)
+    rw (p.1, p.2) (inits_refused c.args.from.depth c.args.from.symbols.now c.args.from.next c.args.from.used c.requires.there c.requires.begins _ _ c.in_ok-m.m c.in_ok-m.ensures _ c.in_err-n.ensures)
 
 pub returns-then-ne : goal.returns-then-ne
 returns-then-ne c =
     let u = c.if-ne.ensures in
-    local_unended c.args.depth c.args.s.now c.args.i c.args.used c.requires.there c.requires.begins _ _ c.in_ok-m.m c.in_ok-m.ensures _ c.in_ok-n.n c.in_ok-n.ensures (λ e. differs u (c.peek.ensures.is ∙ e))
+    local_unended c.args.from.depth c.args.from.symbols.now c.args.from.next c.args.from.used c.requires.there c.requires.begins _ _ c.in_ok-m.m c.in_ok-m.ensures _ c.in_ok-n.n c.in_ok-n.ensures (λ e. differs _ _ u (c.peek.ensures.is ∙ e))
 
 pub returns : goal.returns
 returns c =
     let u = c.if-ne.ensures in
-    let e = agrees u in
+    let e = agrees _ _ u in
     let h = c.peek.ensures.there (far SEMI _ refl e) in
     let m = c.in_ok-m.ensures in
     let l = c.in_ok-n.ensures in
-    (made_local c.args.depth c.args.s.now c.args.i c.args.used c.requires.there c.requires.begins _ _ c.in_ok-m.m m _ c.in_ok-n.n l h (sym c.peek.ensures.is ∙ e) (omega (arith, h, m.few, l.few)), omega (arith, m.few, l.few))
+    (made_local c.args.from.depth c.args.from.symbols.now c.args.from.next c.args.from.used c.requires.there c.requires.begins _ _ c.in_ok-m.m m _ c.in_ok-n.n l h (sym c.peek.ensures.is ∙ e) (omega (arith, h, m.few, l.few)), omega (arith, m.few, l.few))

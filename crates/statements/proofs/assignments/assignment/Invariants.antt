@@ -3,7 +3,7 @@ use Rattle.statements.proofs.Targets.{TargetsMade}
 use Rattle.statements.proofs.assignments.assignment.Given as goal
 
 abbrev pub invariant-loop-d : goal.invariant-loop-d
-invariant-loop-d l = TargetsMade l.depth l.s l.i l.used l.initial.nodes l.nodes l.at × (l.at.used + 2 * l.i < 2 * l.at.next + l.used)
+invariant-loop-d l = TargetsMade l.from.depth l.from.symbols.now l.from.next l.from.used l.initial.nodes l.nodes l.at × (l.at.used + 2 * l.from.next < 2 * l.at.next + l.from.used)
 
 abbrev pub decreases-loop-d : goal.decreases-loop-d
-decreases-loop-d l = length l.s - l.at.next
+decreases-loop-d l = length l.from.symbols.now - l.at.next

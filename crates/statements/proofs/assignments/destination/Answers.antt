@@ -9,40 +9,40 @@ use Rattle.statements.proofs.assignments.destination.Goals as goal
 pub returns-in_err-val_target-in-Val : goal.returns-in_err-val_target-in-Val
 returns-in_err-val_target-in-Val c =
     let n = c.in-Val.ensures in
-    let h : c.args.i < length c.args.s.now = n.there (far VAL _ refl refl) in
+    let h : c.args.from.next < length c.args.from.symbols.now = n.there (far VAL _ refl refl) in
     let p = err_from_is_err_and c.from_residual.result c.from_residual.ensures.1 in
-    rw (p.1, p.2) (onward_refused c.args.depth c.args.s.now c.args.i c.args.used h (sym n.is) _ c.in_err-val_target-in-Val.ensures)
+    rw (p.1, p.2) (onward_refused c.args.from.depth c.args.from.symbols.now c.args.from.next c.args.from.used h (sym n.is) _ c.in_err-val_target-in-Val.ensures)
 
 pub returns-in_err-f-in-Name : goal.returns-in_err-f-in-Name
 returns-in_err-f-in-Name c =
     let n = c.in-Name.ensures in
-    let h : c.args.i < length c.args.s.now = n.there (far NAME _ refl refl) in
+    let h : c.args.from.next < length c.args.from.symbols.now = n.there (far NAME _ refl refl) in
     let p = err_from_is_err_and c.from_residual-in_err-f-in-Name.result c.from_residual-in_err-f-in-Name.ensures.1 in
-    rw (p.1, p.2) (source_refused c.args.depth c.args.s.now c.args.i c.args.used h (sym n.is) _ c.in_err-f-in-Name.ensures)
+    rw (p.1, p.2) (source_refused c.args.from.depth c.args.from.symbols.now c.args.from.next c.args.from.used h (sym n.is) _ c.in_err-f-in-Name.ensures)
 
 pub returns-then-not-destined : goal.returns-then-not-destined
 returns-then-not-destined c =
     let n = c.in-Name.ensures in
-    let h : c.args.i < length c.args.s.now = n.there (far NAME _ refl refl) in
+    let h : c.args.from.next < length c.args.from.symbols.now = n.there (far NAME _ refl refl) in
     let m = c.in_ok-f-in-Name.ensures in
-    let y = c.shape_of.ensures m.tree (form_is c.args.depth c.args.s.now c.args.i m.tree _ m.met) m.is in
+    let y = c.shape_of.ensures m.tree (form_is c.args.from.depth c.args.from.symbols.now c.args.from.next m.tree _ m.met) m.is in
     let o = c.if-not-destined.ensures in
-    (source_expr c.args.depth c.args.s.now c.args.i c.args.used h (sym n.is) _ _ c.in_ok-f-in-Name.f m c.shape_of.result y o, m.kept)
+    (source_expr c.args.from.depth c.args.from.symbols.now c.args.from.next c.args.from.used h (sym n.is) _ _ c.in_ok-f-in-Name.f m c.shape_of.result y o, m.kept)
 
 pub returns-in_ok-val_target-in-Val : goal.returns-in_ok-val_target-in-Val
 returns-in_ok-val_target-in-Val c =
     let n = c.in-Val.ensures in
-    let h : c.args.i < length c.args.s.now = n.there (far VAL _ refl refl) in
-    val_onward c.args.depth c.args.s.now c.args.i c.args.used h (sym n.is) _ _ _ c.in_ok-val_target-in-Val.ensures
+    let h : c.args.from.next < length c.args.from.symbols.now = n.there (far VAL _ refl refl) in
+    val_onward c.args.from.depth c.args.from.symbols.now c.args.from.next c.args.from.used h (sym n.is) _ _ _ c.in_ok-val_target-in-Val.ensures
 
 pub returns-else-not-destined : goal.returns-else-not-destined
 returns-else-not-destined c =
     let n = c.in-Name.ensures in
-    let h : c.args.i < length c.args.s.now = n.there (far NAME _ refl refl) in
+    let h : c.args.from.next < length c.args.from.symbols.now = n.there (far NAME _ refl refl) in
     let m = c.in_ok-f-in-Name.ensures in
-    let y = c.shape_of.ensures m.tree (form_is c.args.depth c.args.s.now c.args.i m.tree _ m.met) m.is in
+    let y = c.shape_of.ensures m.tree (form_is c.args.from.depth c.args.from.symbols.now c.args.from.next m.tree _ m.met) m.is in
     let o = c.if-not-destined.ensures in
-    place_onward c.args.depth c.args.s.now c.args.i c.args.used h (sym n.is) _ _ c.in_ok-f-in-Name.f m c.shape_of.result y o
+    place_onward c.args.from.depth c.args.from.symbols.now c.args.from.next c.args.from.used h (sym n.is) _ _ c.in_ok-f-in-Name.f m c.shape_of.result y o
 
 pub returns-in_default : goal.returns-in_default
-returns-in_default c = (source_other c.args.depth c.args.s.now c.args.i c.args.used (λ e. c.in_default.not-Val (c.peek.ensures.is ∙ e)) (λ e. c.in_default.not-Name (c.peek.ensures.is ∙ e)), λ j l. refl)
+returns-in_default c = (source_other c.args.from.depth c.args.from.symbols.now c.args.from.next c.args.from.used (λ e. c.in_default.not-Val (c.peek.ensures.is ∙ e)) (λ e. c.in_default.not-Name (c.peek.ensures.is ∙ e)), λ j l. refl)

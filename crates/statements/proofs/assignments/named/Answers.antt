@@ -8,23 +8,23 @@ use Rattle.statements.proofs.assignments.named.Goals as goal
 pub returns-in_err-f : goal.returns-in_err-f
 returns-in_err-f c =
     let p = err_from_is_err_and c.from_residual.result c.from_residual.ensures.1 in
-    rw (p.1, p.2) (named_refused c.args.depth c.args.s.now c.args.i c.args.used c.requires.there c.requires.named _ c.in_err-f.ensures)
+    rw (p.1, p.2) (named_refused c.args.from.depth c.args.from.symbols.now c.args.from.next c.args.from.used c.requires.there c.requires.named _ c.in_err-f.ensures)
 
 pub assignment-requires : goal.assignment-requires
 assignment-requires c =
     let m = c.in_ok-f.ensures in
-    let y = c.shape_of-shape.ensures m.tree (form_is c.args.depth c.args.s.now c.args.i m.tree _ m.met) m.is in
-    let o = place_first c.args.depth c.args.s.now c.args.i c.args.used c.requires.there c.requires.named _ _ c.in_ok-f.f m c.shape_of-shape.result y c.if-destined.ensures in
+    let y = c.shape_of-shape.ensures m.tree (form_is c.args.from.depth c.args.from.symbols.now c.args.from.next m.tree _ m.met) m.is in
+    let o = place_first c.args.from.depth c.args.from.symbols.now c.args.from.next c.args.from.used c.requires.there c.requires.named _ _ c.in_ok-f.f m c.shape_of-shape.result y c.if-destined.ensures in
     record { room = omega (arith, c.form.auto.nodes); begun = rebased 0 _ _ _ _ _ _ _ _ _ _ (λ j l. refl) o.0; few = o.1 }
 
 pub returns-in_default : goal.returns-in_default
 returns-in_default c =
     let m = c.in_ok-f.ensures in
-    let y = c.shape_of-shape.ensures m.tree (form_is c.args.depth c.args.s.now c.args.i m.tree _ m.met) m.is in
-    named_off c.args.depth c.args.s.now c.args.i c.args.used c.requires.there c.requires.named _ _ c.in_ok-f.f m c.shape_of-shape.result y c.if-destined.ensures (sym c.invocation.ensures ∙ c.in_default.is)
+    let y = c.shape_of-shape.ensures m.tree (form_is c.args.from.depth c.args.from.symbols.now c.args.from.next m.tree _ m.met) m.is in
+    named_off c.args.from.depth c.args.from.symbols.now c.args.from.next c.args.from.used c.requires.there c.requires.named _ _ c.in_ok-f.f m c.shape_of-shape.result y c.if-destined.ensures (sym c.invocation.ensures ∙ c.in_default.is)
 
 pub returns : goal.returns
 returns c =
     let m = c.in_ok-f.ensures in
-    let y = c.shape_of-shape.ensures m.tree (form_is c.args.depth c.args.s.now c.args.i m.tree _ m.met) m.is in
-    made_invoked c.args.depth c.args.s.now c.args.i c.args.used c.requires.there c.requires.named _ _ c.in_ok-f.f m (omega (arith, m.few, m.within, c.form.auto.nodes)) c.shape_of-shape.result y c.if-destined.ensures c.in-Some.node (sym c.invocation.ensures ∙ c.in-Some.is)
+    let y = c.shape_of-shape.ensures m.tree (form_is c.args.from.depth c.args.from.symbols.now c.args.from.next m.tree _ m.met) m.is in
+    made_invoked c.args.from.depth c.args.from.symbols.now c.args.from.next c.args.from.used c.requires.there c.requires.named _ _ c.in_ok-f.f m (omega (arith, m.few, m.within, c.form.auto.nodes)) c.shape_of-shape.result y c.if-destined.ensures c.in-Some.node (sym c.invocation.ensures ∙ c.in-Some.is)

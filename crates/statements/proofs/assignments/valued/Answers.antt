@@ -7,13 +7,13 @@ use Rattle.statements.proofs.assignments.valued.Goals as goal
 pub returns-in_err-first : goal.returns-in_err-first
 returns-in_err-first c =
     let p = err_from_is_err_and c.from_residual.result c.from_residual.ensures.1 in
-    rw (p.1, p.2) (valued_refused c.args.depth c.args.s.now c.args.i c.args.used c.requires.there c.requires.valued _ c.in_err-first.ensures)
+    rw (p.1, p.2) (valued_refused c.args.from.depth c.args.from.symbols.now c.args.from.next c.args.from.used c.requires.there c.requires.valued _ c.in_err-first.ensures)
 
 pub assignment-requires : goal.assignment-requires
 assignment-requires c =
     let o = c.in_ok-first.ensures in
     record {
       room = omega (arith, c.val_target.auto.nodes);
-      begun = rebased 0 _ _ _ _ _ _ _ _ _ _ (λ j l. refl) (val_first c.args.depth c.args.s.now c.args.i c.args.used c.requires.there c.requires.valued _ _ c.in_ok-first.first o);
+      begun = rebased 0 _ _ _ _ _ _ _ _ _ _ (λ j l. refl) (val_first c.args.from.depth c.args.from.symbols.now c.args.from.next c.args.from.used c.requires.there c.requires.valued _ _ c.in_ok-first.first o);
       few = o.1;
     }

@@ -1,47 +1,48 @@
 use Rattle.std.proofs.Common.{◌+◌, ◌-◌, ◌*◌, ◌<◌, length}
 use Rattle.grammar.specs.Machine.{all, statements}
-use Rattle.nodes.proofs.Repeat.{SomeMade, statements_list}
+use Rattle.nodes.proofs.Repeat.{SomeMade}
+use Rattle.nodes.specs.Lists.{statements_list}
 use Rattle.statements.proofs.Blocks.{ArmsMade}
 use Rattle.statements.proofs.bodies.+statements.Given as goal
 
 abbrev pub decreases-arm : goal.decreases-arm
-decreases-arm l = 8 * l.depth + 7
+decreases-arm l = 8 * l.from.depth + 7
 
 abbrev pub decreases-arms : goal.decreases-arms
-decreases-arms l = 8 * l.depth + 3
+decreases-arms l = 8 * l.from.depth + 3
 
 abbrev pub decreases-block : goal.decreases-block
-decreases-block l = 8 * l.depth + 4
+decreases-block l = 8 * l.from.depth + 4
 
 abbrev pub decreases-body : goal.decreases-body
-decreases-body l = 8 * l.depth + 7
+decreases-body l = 8 * l.from.depth + 7
 
 abbrev pub decreases-branch : goal.decreases-branch
-decreases-branch l = 8 * l.depth + 4
+decreases-branch l = 8 * l.from.depth + 4
 
 abbrev pub decreases-otherwise : goal.decreases-otherwise
-decreases-otherwise l = 8 * l.depth + 3
+decreases-otherwise l = 8 * l.from.depth + 3
 
 abbrev pub decreases-repeat : goal.decreases-repeat
-decreases-repeat l = 8 * l.depth + 4
+decreases-repeat l = 8 * l.from.depth + 4
 
 abbrev pub decreases-sequence : goal.decreases-sequence
-decreases-sequence l = 8 * l.depth + 6
+decreases-sequence l = 8 * l.from.depth + 6
 
 abbrev pub decreases-statement : goal.decreases-statement
-decreases-statement l = 8 * l.depth + 5
+decreases-statement l = 8 * l.from.depth + 5
 
 abbrev pub decreases-while_loop : goal.decreases-while_loop
-decreases-while_loop l = 8 * l.depth + 4
+decreases-while_loop l = 8 * l.from.depth + 4
 
 abbrev pub invariant-arms-loop-nodes : goal.invariant-arms-loop-nodes
-invariant-arms-loop-nodes l = ArmsMade l.depth l.s l.i l.used l.initial.nodes l.nodes l.at × (l.at.used + 2 * l.i < 2 * l.at.next + l.used)
+invariant-arms-loop-nodes l = ArmsMade l.from.depth l.from.symbols.now l.from.next l.from.used l.initial.nodes l.nodes l.at × (l.at.used + 2 * l.from.next < 2 * l.at.next + l.from.used)
 
 abbrev pub decreases-arms-loop-nodes : goal.decreases-arms-loop-nodes
-decreases-arms-loop-nodes l = length l.s - l.at.next
+decreases-arms-loop-nodes l = length l.from.symbols.now - l.at.next
 
 abbrev pub invariant-sequence-loop-nodes : goal.invariant-sequence-loop-nodes
-invariant-sequence-loop-nodes l = SomeMade 1 statements_list (all statements) l.depth l.s l.i l.used l.initial.nodes l.nodes l.at
+invariant-sequence-loop-nodes l = SomeMade 1 statements_list (all statements) l.from.depth l.from.symbols.now l.from.next l.from.used l.initial.nodes l.nodes l.at
 
 abbrev pub decreases-sequence-loop-nodes : goal.decreases-sequence-loop-nodes
-decreases-sequence-loop-nodes l = length l.s - l.at.next
+decreases-sequence-loop-nodes l = length l.from.symbols.now - l.at.next
