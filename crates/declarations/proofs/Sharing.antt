@@ -11,7 +11,9 @@ use Rattle.nodes.proofs.Build.{grown, not_on, far}
 use Rattle.nodes.proofs.Keep.{keep_value, keep_expr, keep_name, keep_many, agree_set, at_set, agree_trans}
 use Rattle.nodes.specs.Made.{at, Made, Way, Refused, Shares, of_shared, NamesWay}
 use Rattle.nodes.specs.Nodes.{Agree, Reading, IsMany, IsName, IsInit, IsValue, IsExpr}
-use Rattle.declarations.specs.Declaring.{IsInitial, goal_of}
+use Rattle.declarations.specs.Declaring.{goal_of}
+use Rattle.nodes.specs.Lists.{IsInitial}
+use Rattle.nodes.proofs.Repeat.{keep_initial}
 use Rattle.nodes.specs.declared.Node.{Node}
 use Rattle.nodes.specs.declared.Node.TheVariants as node
 use Rattle.nodes.specs.declared.Parsed.{Parsed}
@@ -60,10 +62,6 @@ more_names s i used es ns p m q r =
     (λ g a. (p.root, p.used, omega (arith, m.below), omega arith, a, keep_many (p.used + 1) ms _ g IsName (keep_name (p.used + 1) ms _ g) m.tree p.root (omega (arith, m.below)) (keep_many p.used ns ms g₁ IsName (keep_name p.used ns ms g₁) m.tree p.root m.below m.is), g p.used (omega arith) ∙ at_set p.used ns _ (omega arith)))
     (m.text ∙ ap (λ (w : List Token). of_many of_name BECOMES m.tree (key BECOMES ∷ w)) (two_items s p.next q))
     (λ d v α. m.met d v α ∙ more_way d v α s p.next q))
-
-keep_initial : (v : Setting) (n : ℕ) (ns ms : List Node) → Agree n ns ms → (t : Initial v) (k : ℕ) → k < n → IsInitial v t ns k → IsInitial v t ms k
-keep_initial stored n ns ms a t k h is = keep_value n ns ms a t k h is
-keep_initial inblock n ns ms a t k h is = keep_expr n ns ms a t k h is
 
 linked_end : (α : List Goal) (o : Opt (Forest α)) → is_some (pair (void linked) o) ≡ is_some (pair (void (named inner)) (pair (void links_on) o))
 linked_end α none = refl

@@ -9,7 +9,6 @@ use Rattle.grammar.proofs.Steps.{items_here, step_at, sink_at, skip_at}
 use Rattle.nodes.proofs.Build.{grown, not_on, fewer_is, more_is, token_refused}
 use Rattle.nodes.proofs.Keep.{keep_mode, keep_amode, keep_many, keep_name, keep_init, keep_value, agree_trans}
 use Rattle.nodes.proofs.Repeat.{decs_begin, starts, refused, goes, ends}
-use Rattle.nodes.specs.Lists.{described_list, storing_list}
 use Rattle.nodes.specs.Made.{at, Made, Way, Refused}
 use Rattle.nodes.specs.Nodes.{Agree, IsMany, IsName, IsInit, IsValue, IsDec}
 use Rattle.nodes.specs.declared.Node.{Node}
@@ -19,62 +18,57 @@ use Rattle.nodes.specs.declared.Fault.{Fault}
 use Rattle.nodes.specs.declared.Fault.TheVariants.{Syntax, Deep}
 use Rattle.declarations.proofs.Modes.{ModeMade, AmodeMade}
 use Rattle.declarations.proofs.Firsts.{mode_alike, mode_refuses}
-use Rattle.declarations.specs.Declaring.{mode_firsts, sort_of, Listing, IsListing, of_listing}
-use Rattle.declarations.specs.declared.bricks.Declaring.{Declaring}
-use Rattle.declarations.specs.declared.bricks.Declaring.TheVariants.{Described, Stored}
+use Rattle.declarations.specs.Declaring.{mode_firsts, Listing, IsListing, of_listing}
+use Rattle.nodes.proofs.Repeat.{keep_declareds}
 
-pub keep_listing : (k : Declaring) (n : ℕ) (ns ms : List Node) → Agree n ns ms → (t : Listing k) (j : ℕ) → j < n → IsListing k t ns j → IsListing k t ms j
-keep_listing Described n ns ms a t j h is = keep_many n ns ms a IsName (keep_name n ns ms a) t j h is
-keep_listing Stored n ns ms a t j h is = keep_many n ns ms a (IsInit IsValue) (keep_init n ns ms a IsValue (keep_value n ns ms a)) t j h is
+abbrev pub ListingMade : Sort → ℕ → List Symbol → ℕ → ℕ → List Node → List Node → Parsed → Type 0
+ListingMade k d s i used ns ms p = Made 0 (Listing k) (IsListing k) (of_listing k) (Way (all (declareds k) ∷ []) d s i) s i used ns ms p
 
-abbrev pub ListingMade : Declaring → ℕ → List Symbol → ℕ → ℕ → List Node → List Node → Parsed → Type 0
-ListingMade k d s i used ns ms p = Made 0 (Listing k) (IsListing k) (of_listing k) (Way (all (declareds (sort_of k)) ∷ []) d s i) s i used ns ms p
+abbrev pub DecMade : Sort → ℕ → List Symbol → ℕ → ℕ → List Node → List Node → Parsed → Type 0
+DecMade k d s i used ns ms p = Made 1 (Dec (Listing k)) (IsDec (IsListing k)) (of_dec (of_listing k)) (Way (each (decs k) ∷ []) d s i) s i used ns ms p
 
-abbrev pub DecMade : Declaring → ℕ → List Symbol → ℕ → ℕ → List Node → List Node → Parsed → Type 0
-DecMade k d s i used ns ms p = Made 1 (Dec (Listing k)) (IsDec (IsListing k)) (of_dec (of_listing k)) (Way (each (decs (sort_of k)) ∷ []) d s i) s i used ns ms p
-
-abbrev pub DecRefused : Declaring → ℕ → List Symbol → ℕ → Fault → Type 0
-DecRefused k d s i f = Refused (each (decs (sort_of k)) ∷ []) d s i f
+abbrev pub DecRefused : Sort → ℕ → List Symbol → ℕ → Fault → Type 0
+DecRefused k d s i f = Refused (each (decs k) ∷ []) d s i f
 
 -- nothing is declared
 nothing_move : (t : Sort) (c : Symbol) → (c ≡ ARRAY → ⊥) → (c ≡ NAME → ⊥) → (c ≡ INT → ⊥) → (c ≡ BYTE → ⊥) → (c ≡ REF → ⊥) → at_dec t c ≡ skip nothing
 nothing_move t c a n x y z = not_on c ARRAY _ _ _ a ∙ not_on c NAME _ _ _ n ∙ ap (λ (m : Move Mode). orelse (then m (λ α. all (declareds t) ∷ α) (λ e α g. (variables e g.0, g.1)) never) (skip nothing)) (mode_refuses c x y z)
 
-module _ (k : Declaring) (d : ℕ) (s : List Symbol) (i used : ℕ) where
+module _ (k : Sort) (d : ℕ) (s : List Symbol) (i used : ℕ) where
   pub made_nothing : (ns : List Node) → i ≤ length s → (get_or s i STOP ≡ ARRAY → ⊥) → (get_or s i STOP ≡ NAME → ⊥) → (get_or s i STOP ≡ INT → ⊥) → (get_or s i STOP ≡ BYTE → ⊥) → (get_or s i STOP ≡ REF → ⊥) → used < length ns → DecMade k d s i used ns (set ns used node.Nothing) (record { next = i; used = used + 1; root = used })
-  made_nothing ns h a n x y z r = grown 1 (IsDec (IsListing k)) (of_dec (of_listing k)) (Way (each (decs (sort_of k)) ∷ []) d s i) s i used ns ns used i node.Nothing r nothing h (omega arith) (omega arith) (λ j l. refl) (λ g e. e) refl (λ α. skip_at d (each (decs (sort_of k))) α s i nothing nothing refl (nothing_move (sort_of k) (get_or s i STOP) a n x y z))
+  made_nothing ns h a n x y z r = grown 1 (IsDec (IsListing k)) (of_dec (of_listing k)) (Way (each (decs k) ∷ []) d s i) s i used ns ns used i node.Nothing r nothing h (omega arith) (omega arith) (λ j l. refl) (λ g e. e) refl (λ α. skip_at d (each (decs k)) α s i nothing nothing refl (nothing_move k (get_or s i STOP) a n x y z))
 
   -- records
   module _ (h : i < length s) (q : get_or s i STOP ≡ NAME) where
-    record_way : (α : List Goal) → at d (each (decs (sort_of k)) ∷ α) s i ≡ at d (all (declareds (sort_of k)) ∷ α) s (i + 1)
-    record_way α = step_at d (each (decs (sort_of k)) ∷ α) (all (declareds (sort_of k)) ∷ α) s i d NAME h q refl refl
+    record_way : (α : List Goal) → at d (each (decs k) ∷ α) s i ≡ at d (all (declareds k) ∷ α) s (i + 1)
+    record_way α = step_at d (each (decs k) ∷ α) (all (declareds k) ∷ α) s i d NAME h q refl refl
 
-    pub records_refused : (f : Fault) → Refused (all (declareds (sort_of k)) ∷ []) d s (i + 1) f → DecRefused k d s i f
+    pub records_refused : (f : Fault) → Refused (all (declareds k) ∷ []) d s (i + 1) f → DecRefused k d s i f
     records_refused f r α = record_way α ∙ r α
 
     pub made_structures : (ns ms : List Node) (p : Parsed) → p.used < length ms → ListingMade k d s (i + 1) used ns ms p → DecMade k d s i used ns (set ms p.used (node.Structures i p.root)) (record { next = p.next; used = p.used + 1; root = p.used })
-    made_structures ns ms p r l = grown 1 (IsDec (IsListing k)) (of_dec (of_listing k)) (Way (each (decs (sort_of k)) ∷ []) d s i) s i used ns ms p.used p.next (node.Structures i p.root) r (structures i l.tree) l.within l.more (omega (arith, l.few)) l.kept (λ g a. (p.root, l.below, a, keep_listing k p.used ms _ g l.tree p.root l.below l.is)) (items_here s i NAME h q ∙ ap (λ (v : List Token). token NAME i ∷ v) l.text) (λ α. record_way α ∙ l.met α)
+    made_structures ns ms p r l = grown 1 (IsDec (IsListing k)) (of_dec (of_listing k)) (Way (each (decs k) ∷ []) d s i) s i used ns ms p.used p.next (node.Structures i p.root) r (structures i l.tree) l.within l.more (omega (arith, l.few)) l.kept (λ g a. (p.root, l.below, a, keep_declareds k p.used ms _ g l.tree p.root l.below l.is)) (items_here s i NAME h q ∙ ap (λ (v : List Token). token NAME i ∷ v) l.text) (λ α. record_way α ∙ l.met α)
 
   -- variables
   module _ (h : i < length s) (q : among mode_firsts (get_or s i STOP) ≡ true) where
-    mode_way : (α : List Goal) → at d (each (decs (sort_of k)) ∷ α) s i ≡ at d (a_mode ∷ all (declareds (sort_of k)) ∷ α) s i
-    mode_way α = mode_alike d (each (decs (sort_of k)) ∷ α) (a_mode ∷ all (declareds (sort_of k)) ∷ α) s i h q refl refl refl
+    mode_way : (α : List Goal) → at d (each (decs k) ∷ α) s i ≡ at d (a_mode ∷ all (declareds k) ∷ α) s i
+    mode_way α = mode_alike d (each (decs k) ∷ α) (a_mode ∷ all (declareds k) ∷ α) s i h q refl refl refl
 
     pub mode_refused : (f : Fault) → Refused (a_mode ∷ []) d s i f → DecRefused k d s i f
-    mode_refused f r α = mode_way α ∙ r (all (declareds (sort_of k)) ∷ α)
+    mode_refused f r α = mode_way α ∙ r (all (declareds k) ∷ α)
 
     module _ (ns ms : List Node) (e : Parsed) (m : ModeMade d s i used ns ms e) where
-      variable_way : (α : List Goal) → at d (each (decs (sort_of k)) ∷ α) s i ≡ at d (all (declareds (sort_of k)) ∷ α) s e.next
-      variable_way α = mode_way α ∙ m.met (all (declareds (sort_of k)) ∷ α)
+      variable_way : (α : List Goal) → at d (each (decs k) ∷ α) s i ≡ at d (all (declareds k) ∷ α) s e.next
+      variable_way α = mode_way α ∙ m.met (all (declareds k) ∷ α)
 
-      pub variables_refused : (f : Fault) → Refused (all (declareds (sort_of k)) ∷ []) d s e.next f → DecRefused k d s i f
+      pub variables_refused : (f : Fault) → Refused (all (declareds k) ∷ []) d s e.next f → DecRefused k d s i f
       variables_refused f r α = variable_way α ∙ r α
 
       pub made_variables : (os : List Node) (p : Parsed) → p.used < length os → ListingMade k d s e.next e.used ms os p → DecMade k d s i used ns (set os p.used (node.Variables e.root p.root)) (record { next = p.next; used = p.used + 1; root = p.used })
       made_variables os p r l =
-          grown 1 (IsDec (IsListing k)) (of_dec (of_listing k)) (Way (each (decs (sort_of k)) ∷ []) d s i) s i used ns os p.used p.next (node.Variables e.root p.root) r (variables m.tree l.tree) l.within (omega (arith, m.more, l.more)) (omega (arith, m.few, l.few))
+          grown 1 (IsDec (IsListing k)) (of_dec (of_listing k)) (Way (each (decs k) ∷ []) d s i) s i used ns os p.used p.next (node.Variables e.root p.root) r (variables m.tree l.tree) l.within (omega (arith, m.more, l.more)) (omega (arith, m.few, l.few))
           (agree_trans used e.used ns ms os m.more m.kept l.kept)
-          (λ g a. (e.root, p.root, omega (arith, m.below, l.more), l.below, a, keep_mode p.used os _ g m.tree e.root (omega (arith, m.below, l.more)) (keep_mode e.used ms os l.kept m.tree e.root m.below m.is), keep_listing k p.used os _ g l.tree p.root l.below l.is))
+          (λ g a. (e.root, p.root, omega (arith, m.below, l.more), l.below, a, keep_mode p.used os _ g m.tree e.root (omega (arith, m.below, l.more)) (keep_mode e.used ms os l.kept m.tree e.root m.below m.is), keep_declareds k p.used os _ g l.tree p.root l.below l.is))
           (m.text ∙ ap (of_mode m.tree) l.text)
           (λ α. variable_way α ∙ l.met α)
 
@@ -89,78 +83,51 @@ module _ (k : Declaring) (d : ℕ) (s : List Symbol) (i used : ℕ) where
     four : i + 3 + 1 ≡ i + 4
     four = omega arith
 
-    array_way : (α : List Goal) → at d (each (decs (sort_of k)) ∷ α) s i ≡ at d (tok LEFT ∷ tok INTEGER ∷ tok RIGHT ∷ an_amode ∷ all (declareds (sort_of k)) ∷ α) s (i + 1)
-    array_way α = step_at d (each (decs (sort_of k)) ∷ α) (tok LEFT ∷ tok INTEGER ∷ tok RIGHT ∷ an_amode ∷ all (declareds (sort_of k)) ∷ α) s i d ARRAY h q refl refl
+    array_way : (α : List Goal) → at d (each (decs k) ∷ α) s i ≡ at d (tok LEFT ∷ tok INTEGER ∷ tok RIGHT ∷ an_amode ∷ all (declareds k) ∷ α) s (i + 1)
+    array_way α = step_at d (each (decs k) ∷ α) (tok LEFT ∷ tok INTEGER ∷ tok RIGHT ∷ an_amode ∷ all (declareds k) ∷ α) s i d ARRAY h q refl refl
 
     pub array_unopened : (get_or s (i + 1) STOP ≡ LEFT → ⊥) → DecRefused k d s i (Syntax (i + 1))
-    array_unopened n α = array_way α ∙ token_refused d LEFT (tok INTEGER ∷ tok RIGHT ∷ an_amode ∷ all (declareds (sort_of k)) ∷ α) s (i + 1) n
+    array_unopened n α = array_way α ∙ token_refused d LEFT (tok INTEGER ∷ tok RIGHT ∷ an_amode ∷ all (declareds k) ∷ α) s (i + 1) n
 
     module _ (h' : i + 1 < length s) (q' : get_or s (i + 1) STOP ≡ LEFT) where
       pub array_deep : d ≡ 0 → DecRefused k d s i (Deep (i + 1))
-      array_deep z α = array_way α ∙ sink_at d (tok LEFT ∷ tok INTEGER ∷ tok RIGHT ∷ an_amode ∷ all (declareds (sort_of k)) ∷ α) (tok INTEGER ∷ tok RIGHT ∷ an_amode ∷ all (declareds (sort_of k)) ∷ α) s (i + 1) LEFT h' q' refl (ap fewer z)
+      array_deep z α = array_way α ∙ sink_at d (tok LEFT ∷ tok INTEGER ∷ tok RIGHT ∷ an_amode ∷ all (declareds k) ∷ α) (tok INTEGER ∷ tok RIGHT ∷ an_amode ∷ all (declareds k) ∷ α) s (i + 1) LEFT h' q' refl (ap fewer z)
 
       module _ (z : 0 < d) where
-        opened_way : (α : List Goal) → at d (each (decs (sort_of k)) ∷ α) s i ≡ at (d - 1) (tok INTEGER ∷ tok RIGHT ∷ an_amode ∷ all (declareds (sort_of k)) ∷ α) s (i + 2)
-        opened_way α = array_way α ∙ step_at d (tok LEFT ∷ tok INTEGER ∷ tok RIGHT ∷ an_amode ∷ all (declareds (sort_of k)) ∷ α) (tok INTEGER ∷ tok RIGHT ∷ an_amode ∷ all (declareds (sort_of k)) ∷ α) s (i + 1) (d - 1) LEFT h' q' refl (fewer_is d z) ∙ ap (λ (j : ℕ). at (d - 1) (tok INTEGER ∷ tok RIGHT ∷ an_amode ∷ all (declareds (sort_of k)) ∷ α) s j) two
+        opened_way : (α : List Goal) → at d (each (decs k) ∷ α) s i ≡ at (d - 1) (tok INTEGER ∷ tok RIGHT ∷ an_amode ∷ all (declareds k) ∷ α) s (i + 2)
+        opened_way α = array_way α ∙ step_at d (tok LEFT ∷ tok INTEGER ∷ tok RIGHT ∷ an_amode ∷ all (declareds k) ∷ α) (tok INTEGER ∷ tok RIGHT ∷ an_amode ∷ all (declareds k) ∷ α) s (i + 1) (d - 1) LEFT h' q' refl (fewer_is d z) ∙ ap (λ (j : ℕ). at (d - 1) (tok INTEGER ∷ tok RIGHT ∷ an_amode ∷ all (declareds k) ∷ α) s j) two
 
         pub array_no_length : (get_or s (i + 2) STOP ≡ INTEGER → ⊥) → DecRefused k d s i (Syntax (i + 2))
-        array_no_length n α = opened_way α ∙ token_refused (d - 1) INTEGER (tok RIGHT ∷ an_amode ∷ all (declareds (sort_of k)) ∷ α) s (i + 2) n
+        array_no_length n α = opened_way α ∙ token_refused (d - 1) INTEGER (tok RIGHT ∷ an_amode ∷ all (declareds k) ∷ α) s (i + 2) n
 
         module _ (h'' : i + 2 < length s) (q'' : get_or s (i + 2) STOP ≡ INTEGER) where
-          length_way : (α : List Goal) → at d (each (decs (sort_of k)) ∷ α) s i ≡ at (d - 1) (tok RIGHT ∷ an_amode ∷ all (declareds (sort_of k)) ∷ α) s (i + 3)
-          length_way α = opened_way α ∙ step_at (d - 1) (tok INTEGER ∷ tok RIGHT ∷ an_amode ∷ all (declareds (sort_of k)) ∷ α) (tok RIGHT ∷ an_amode ∷ all (declareds (sort_of k)) ∷ α) s (i + 2) (d - 1) INTEGER h'' q'' refl refl ∙ ap (λ (j : ℕ). at (d - 1) (tok RIGHT ∷ an_amode ∷ all (declareds (sort_of k)) ∷ α) s j) three
+          length_way : (α : List Goal) → at d (each (decs k) ∷ α) s i ≡ at (d - 1) (tok RIGHT ∷ an_amode ∷ all (declareds k) ∷ α) s (i + 3)
+          length_way α = opened_way α ∙ step_at (d - 1) (tok INTEGER ∷ tok RIGHT ∷ an_amode ∷ all (declareds k) ∷ α) (tok RIGHT ∷ an_amode ∷ all (declareds k) ∷ α) s (i + 2) (d - 1) INTEGER h'' q'' refl refl ∙ ap (λ (j : ℕ). at (d - 1) (tok RIGHT ∷ an_amode ∷ all (declareds k) ∷ α) s j) three
 
           pub array_unclosed : (get_or s (i + 3) STOP ≡ RIGHT → ⊥) → DecRefused k d s i (Syntax (i + 3))
-          array_unclosed n α = length_way α ∙ token_refused (d - 1) RIGHT (an_amode ∷ all (declareds (sort_of k)) ∷ α) s (i + 3) n
+          array_unclosed n α = length_way α ∙ token_refused (d - 1) RIGHT (an_amode ∷ all (declareds k) ∷ α) s (i + 3) n
 
           module _ (h''' : i + 3 < length s) (q''' : get_or s (i + 3) STOP ≡ RIGHT) where
-            closed_way : (α : List Goal) → at d (each (decs (sort_of k)) ∷ α) s i ≡ at d (an_amode ∷ all (declareds (sort_of k)) ∷ α) s (i + 4)
-            closed_way α = length_way α ∙ step_at (d - 1) (tok RIGHT ∷ an_amode ∷ all (declareds (sort_of k)) ∷ α) (an_amode ∷ all (declareds (sort_of k)) ∷ α) s (i + 3) d RIGHT h''' q''' refl (more_is d z) ∙ ap (λ (j : ℕ). at d (an_amode ∷ all (declareds (sort_of k)) ∷ α) s j) four
+            closed_way : (α : List Goal) → at d (each (decs k) ∷ α) s i ≡ at d (an_amode ∷ all (declareds k) ∷ α) s (i + 4)
+            closed_way α = length_way α ∙ step_at (d - 1) (tok RIGHT ∷ an_amode ∷ all (declareds k) ∷ α) (an_amode ∷ all (declareds k) ∷ α) s (i + 3) d RIGHT h''' q''' refl (more_is d z) ∙ ap (λ (j : ℕ). at d (an_amode ∷ all (declareds k) ∷ α) s j) four
 
             array_text : items i (drop i s) ≡ key ARRAY ∷ token LEFT (i + 1) ∷ token INTEGER (i + 2) ∷ key RIGHT ∷ items (i + 4) (drop (i + 4) s)
             array_text = items_here s i ARRAY h q ∙ ap (λ (v : List Token). key ARRAY ∷ v) (items_here s (i + 1) LEFT h' q' ∙ ap (λ (j : ℕ). token LEFT (i + 1) ∷ items j (drop j s)) two ∙ ap (λ (v : List Token). token LEFT (i + 1) ∷ v) (items_here s (i + 2) INTEGER h'' q'' ∙ ap (λ (j : ℕ). token INTEGER (i + 2) ∷ items j (drop j s)) three ∙ ap (λ (v : List Token). token INTEGER (i + 2) ∷ v) (items_here s (i + 3) RIGHT h''' q''' ∙ ap (λ (j : ℕ). key RIGHT ∷ items j (drop j s)) four)))
 
             pub element_refused : (f : Fault) → Refused (an_amode ∷ []) d s (i + 4) f → DecRefused k d s i f
-            element_refused f r α = closed_way α ∙ r (all (declareds (sort_of k)) ∷ α)
+            element_refused f r α = closed_way α ∙ r (all (declareds k) ∷ α)
 
             module _ (ns ms : List Node) (e : Parsed) (m : AmodeMade d s (i + 4) used ns ms e) where
-              arrays_way : (α : List Goal) → at d (each (decs (sort_of k)) ∷ α) s i ≡ at d (all (declareds (sort_of k)) ∷ α) s e.next
-              arrays_way α = closed_way α ∙ m.met (all (declareds (sort_of k)) ∷ α)
+              arrays_way : (α : List Goal) → at d (each (decs k) ∷ α) s i ≡ at d (all (declareds k) ∷ α) s e.next
+              arrays_way α = closed_way α ∙ m.met (all (declareds k) ∷ α)
 
-              pub arrays_refused : (f : Fault) → Refused (all (declareds (sort_of k)) ∷ []) d s e.next f → DecRefused k d s i f
+              pub arrays_refused : (f : Fault) → Refused (all (declareds k) ∷ []) d s e.next f → DecRefused k d s i f
               arrays_refused f r α = arrays_way α ∙ r α
 
               pub made_arrays : (os : List Node) (p : Parsed) → p.used < length os → ListingMade k d s e.next e.used ms os p → DecMade k d s i used ns (set os p.used (node.Arrays (i + 1) (i + 2) e.root p.root)) (record { next = p.next; used = p.used + 1; root = p.used })
               made_arrays os p r l =
-                  grown 1 (IsDec (IsListing k)) (of_dec (of_listing k)) (Way (each (decs (sort_of k)) ∷ []) d s i) s i used ns os p.used p.next (node.Arrays (i + 1) (i + 2) e.root p.root) r (arrays (i + 1) (i + 2) m.tree l.tree) l.within (omega (arith, m.more, l.more)) (omega (arith, m.few, l.few))
+                  grown 1 (IsDec (IsListing k)) (of_dec (of_listing k)) (Way (each (decs k) ∷ []) d s i) s i used ns os p.used p.next (node.Arrays (i + 1) (i + 2) e.root p.root) r (arrays (i + 1) (i + 2) m.tree l.tree) l.within (omega (arith, m.more, l.more)) (omega (arith, m.few, l.few))
                   (agree_trans used e.used ns ms os m.more m.kept l.kept)
-                  (λ g a. (e.root, p.root, omega (arith, m.below, l.more), l.below, a, keep_amode p.used os _ g m.tree e.root (omega (arith, m.below, l.more)) (keep_amode e.used ms os l.kept m.tree e.root m.below m.is), keep_listing k p.used os _ g l.tree p.root l.below l.is))
+                  (λ g a. (e.root, p.root, omega (arith, m.below, l.more), l.below, a, keep_amode p.used os _ g m.tree e.root (omega (arith, m.below, l.more)) (keep_amode e.used ms os l.kept m.tree e.root m.below m.is), keep_declareds k p.used os _ g l.tree p.root l.below l.is))
                   (array_text ∙ ap (λ (v : List Token). key ARRAY ∷ token LEFT (i + 1) ∷ token INTEGER (i + 2) ∷ key RIGHT ∷ v) (m.text ∙ ap (of_amode m.tree) l.text))
                   (λ α. arrays_way α ∙ l.met α)
-
--- declarations, of which more may follow; all of them
-abbrev pub DecsSome : Declaring → ℕ → List Symbol → ℕ → ℕ → List Node → List Node → Parsed → Type 0
-DecsSome k d s i used ns ms p = Made 1 (Many (Dec (Listing k))) (IsMany (IsDec (IsListing k))) (of_many (of_dec (of_listing k)) SEMI) (λ t j. (α : List Goal) → at d (all (decs (sort_of k)) ∷ α) s i ≡ at d (rest (decs (sort_of k)) ∷ α) s j) s i used ns ms p
-
-abbrev pub DecsMade : Declaring → ℕ → List Symbol → ℕ → ℕ → List Node → List Node → Parsed → Type 0
-DecsMade k d s i used ns ms p = Made 1 (Many (Dec (Listing k))) (IsMany (IsDec (IsListing k))) (of_many (of_dec (of_listing k)) SEMI) (Way (all (decs (sort_of k)) ∷ []) d s i) s i used ns ms p
-
-module _ (d : ℕ) (s : List Symbol) (i used : ℕ) where
-  pub first_dec_refused : (k : Declaring) (f : Fault) → DecRefused k d s i f → Refused (all (decs (sort_of k)) ∷ []) d s i f
-  first_dec_refused k f z α = decs_begin (sort_of k) d α s i ∙ z (rest (decs (sort_of k)) ∷ α)
-
-  pub decs_start : (k : Declaring) (ns ms : List Node) (p : Parsed) → DecMade k d s i used ns ms p → DecsSome k d s i used ms ms p
-  decs_start Described ns ms p m = starts 1 (omega arith) described_list (all (decs unset)) (decs_begin unset) d s i used ns ms p m
-  decs_start Stored ns ms p m = starts 1 (omega arith) storing_list (all (decs (set_sort stored))) (decs_begin (set_sort stored)) d s i used ns ms p m
-
-  pub decs_end : (k : Declaring) (es ns : List Node) (p : Parsed) → DecsSome k d s i used es ns p → (os : List Node) → Agree used os es → (get_or s p.next STOP ≡ SEMI → ⊥) → DecsMade k d s i used os ns p
-  decs_end Described es ns p m os a n = ends 1 (omega arith) described_list (all (decs unset)) (decs_begin unset) d s i used es ns p m os a n
-  decs_end Stored es ns p m os a n = ends 1 (omega arith) storing_list (all (decs (set_sort stored))) (decs_begin (set_sort stored)) d s i used es ns p m os a n
-
-  pub next_dec_refused : (k : Declaring) (es ns : List Node) (p : Parsed) → DecsSome k d s i used es ns p → p.next < length s → get_or s p.next STOP ≡ SEMI → (f : Fault) → DecRefused k d s (p.next + 1) f → Refused (all (decs (sort_of k)) ∷ []) d s i f
-  next_dec_refused Described es ns p m b q f z = refused 1 (omega arith) described_list (all (decs unset)) (decs_begin unset) d s i used es ns p m b q f z
-  next_dec_refused Stored es ns p m b q f z = refused 1 (omega arith) storing_list (all (decs (set_sort stored))) (decs_begin (set_sort stored)) d s i used es ns p m b q f z
-
-  pub decs_go : (k : Declaring) (es ns : List Node) (p : Parsed) → DecsSome k d s i used es ns p → p.next < length s → get_or s p.next STOP ≡ SEMI → (ms : List Node) (t : Parsed) → t.used < length ms → DecMade k d s (p.next + 1) p.used ns ms t → DecsSome k d s i used es (set ms t.used (node.Also p.root t.root)) (record { next = t.next; used = t.used + 1; root = t.used })
-  decs_go Described es ns p m b q ms t r o = goes 1 (omega arith) described_list (all (decs unset)) (decs_begin unset) d s i used es ns p m b q ms t r o
-  decs_go Stored es ns p m b q ms t r o = goes 1 (omega arith) storing_list (all (decs (set_sort stored))) (decs_begin (set_sort stored)) d s i used es ns p m b q ms t r o

@@ -5,11 +5,38 @@ ghost use Rattle.nodes.specs.Nodes.{IsMany, IsMode, IsDec};
 ghost use Rattle.grammar.specs.Symbols.{among, STOP, NAME, ARRAY, COMMA, SEMI};
 ghost use Rattle.grammar.specs.Trees.{Many, of_many, Mode, of_mode, Dec, of_dec};
 ghost use Rattle.grammar.specs.Machine.{all, each, modes as the_modes, declareds, decs as the_decs};
-ghost use Rattle.declarations.specs.Declaring.{mode_firsts, sort_of, Listing, IsListing, of_listing};
+ghost use Rattle.declarations.specs.Declaring.{mode_firsts, Listing, IsListing, of_listing};
+ghost use Rattle.std.proofs.Common.{rules};
+ghost use Rattle.nodes.proofs.Repeat.{modes_begin, decs_begin};
 
-use crate::{amode, mode, names, stored_inits};
+use crate::{Declares, amode, mode, names};
 use grammar::Symbol;
+use nodes::lists::{Entries, read_list};
 use nodes::{Fault, Node, Parsed, Spot};
+
+/// Modes with commas between them.
+#[derive(Clone, Copy)]
+struct ModeList;
+
+impl Entries for ModeList {
+    ghost kind = { λ a. the_modes };
+
+    ghost slack = { 0 };
+
+    ghost goal = { λ a. all the_modes };
+
+    fn separator(self) -> Symbol {
+        Symbol::Comma
+    }
+
+    fn entry(self, from: Spot<'_>, nodes: &mut [Node]) -> Result<Parsed, Fault> {
+        mode(from, nodes)
+    }
+
+    ghost small = { Prim.search rules };
+
+    ghost begins = { λ a. modes_begin };
+}
 
 /// Modes, separated by commas.
 pub fn modes(from: Spot<'_>, nodes: &mut [Node]) -> Result<Parsed, Fault>
@@ -17,51 +44,15 @@ pub fn modes(from: Spot<'_>, nodes: &mut [Node]) -> Result<Parsed, Fault>
     requires room { Room 0 from nodes.old }
     ensures { ReadsTo 0 (Many Mode) (IsMany IsMode) (of_many of_mode COMMA) (all the_modes ∷ []) from.entry nodes.old nodes.new result }
 {
-    let mut at = mode(from, nodes)?;
-    while from.peek(at.next) == Symbol::Comma {
-        let e = mode(
-            Spot {
-                next: at.next + 1,
-                used: at.used,
-                ..from
-            },
-            nodes,
-        )?;
-        nodes[e.used] = Node::Also(at.root, e.root);
-        at = Parsed {
-            next: e.next,
-            used: e.used + 1,
-            root: e.used,
-        };
-    }
-    Ok(at)
-}
-
-/// How a data brick declares names: described without values, or stored with their initial values.
-#[derive(Clone, Copy)]
-pub enum Declaring {
-    Described,
-    Stored,
-}
-
-/// The names of one declaration, separated by commas.
-fn listing(from: Spot<'_>, nodes: &mut [Node], how: Declaring) -> Result<Parsed, Fault>
-    requires within { from.next ≤ length from.symbols.now }
-    requires room { Room 0 from nodes.old }
-    ensures { ReadsTo 0 (Listing how) (IsListing how) (of_listing how) (all (declareds (sort_of how)) ∷ []) from.entry nodes.old nodes.new result }
-{
-    match how {
-        Declaring::Described => names(from, nodes),
-        Declaring::Stored => stored_inits(from, nodes),
-    }
+    read_list(ModeList, from, nodes)
 }
 
 /// The declaration of arrays, ARRAY being at i.
-fn arrays(from: Spot<'_>, nodes: &mut [Node], how: Declaring) -> Result<Parsed, Fault>
+fn arrays<D: Declares>(of: D, from: Spot<'_>, nodes: &mut [Node]) -> Result<Parsed, Fault>
     requires array { slice_index_or from.symbols.now from.next STOP ≡ ARRAY }
     requires there { from.next < length from.symbols.now }
     requires room { Room 1 from nodes.old }
-    ensures { ReadsTo 1 (Dec (Listing how)) (IsDec (IsListing how)) (of_dec (of_listing how)) (each (the_decs (sort_of how)) ∷ []) from.entry nodes.old nodes.new result }
+    ensures { ReadsTo 1 (Dec (Listing D.sort)) (IsDec (IsListing D.sort)) (of_dec (of_listing D.sort)) (each (the_decs D.sort) ∷ []) from.entry nodes.old nodes.new result }
 {
     if from.peek(from.next + 1) != Symbol::Left {
         return Err(Fault::Syntax(from.next + 1));
@@ -82,14 +73,14 @@ fn arrays(from: Spot<'_>, nodes: &mut [Node], how: Declaring) -> Result<Parsed, 
         },
         nodes,
     )?;
-    let n = listing(
+    let n = names(
+        of,
         Spot {
             next: m.next,
             used: m.used,
             ..from
         },
         nodes,
-        how,
     )?;
     nodes[n.used] = Node::Arrays(from.next + 1, from.next + 2, m.root, n.root);
     Ok(Parsed {
@@ -100,19 +91,19 @@ fn arrays(from: Spot<'_>, nodes: &mut [Node], how: Declaring) -> Result<Parsed, 
 }
 
 /// The declaration of records, the name of their mode being at i.
-fn structures(from: Spot<'_>, nodes: &mut [Node], how: Declaring) -> Result<Parsed, Fault>
+fn structures<D: Declares>(of: D, from: Spot<'_>, nodes: &mut [Node]) -> Result<Parsed, Fault>
     requires name { slice_index_or from.symbols.now from.next STOP ≡ NAME }
     requires there { from.next < length from.symbols.now }
     requires room { Room 1 from nodes.old }
-    ensures { ReadsTo 1 (Dec (Listing how)) (IsDec (IsListing how)) (of_dec (of_listing how)) (each (the_decs (sort_of how)) ∷ []) from.entry nodes.old nodes.new result }
+    ensures { ReadsTo 1 (Dec (Listing D.sort)) (IsDec (IsListing D.sort)) (of_dec (of_listing D.sort)) (each (the_decs D.sort) ∷ []) from.entry nodes.old nodes.new result }
 {
-    let n = listing(
+    let n = names(
+        of,
         Spot {
             next: from.next + 1,
             ..from
         },
         nodes,
-        how,
     )?;
     nodes[n.used] = Node::Structures(from.next, n.root);
     Ok(Parsed {
@@ -123,21 +114,21 @@ fn structures(from: Spot<'_>, nodes: &mut [Node], how: Declaring) -> Result<Pars
 }
 
 /// The declaration of variables of a simple mode, which begins at i.
-fn variables(from: Spot<'_>, nodes: &mut [Node], how: Declaring) -> Result<Parsed, Fault>
+fn variables<D: Declares>(of: D, from: Spot<'_>, nodes: &mut [Node]) -> Result<Parsed, Fault>
     requires begins { among mode_firsts (slice_index_or from.symbols.now from.next STOP) ≡ true }
     requires there { from.next < length from.symbols.now }
     requires room { Room 1 from nodes.old }
-    ensures { ReadsTo 1 (Dec (Listing how)) (IsDec (IsListing how)) (of_dec (of_listing how)) (each (the_decs (sort_of how)) ∷ []) from.entry nodes.old nodes.new result }
+    ensures { ReadsTo 1 (Dec (Listing D.sort)) (IsDec (IsListing D.sort)) (of_dec (of_listing D.sort)) (each (the_decs D.sort) ∷ []) from.entry nodes.old nodes.new result }
 {
     let m = mode(from, nodes)?;
-    let n = listing(
+    let n = names(
+        of,
         Spot {
             next: m.next,
             used: m.used,
             ..from
         },
         nodes,
-        how,
     )?;
     nodes[n.used] = Node::Variables(m.root, n.root);
     Ok(Parsed {
@@ -148,15 +139,15 @@ fn variables(from: Spot<'_>, nodes: &mut [Node], how: Declaring) -> Result<Parse
 }
 
 /// One declaration, which may be empty.
-fn dec(from: Spot<'_>, nodes: &mut [Node], how: Declaring) -> Result<Parsed, Fault>
+fn dec<D: Declares>(of: D, from: Spot<'_>, nodes: &mut [Node]) -> Result<Parsed, Fault>
     requires within { from.next ≤ length from.symbols.now }
     requires room { Room 1 from nodes.old }
-    ensures { ReadsTo 1 (Dec (Listing how)) (IsDec (IsListing how)) (of_dec (of_listing how)) (each (the_decs (sort_of how)) ∷ []) from.entry nodes.old nodes.new result }
+    ensures { ReadsTo 1 (Dec (Listing D.sort)) (IsDec (IsListing D.sort)) (of_dec (of_listing D.sort)) (each (the_decs D.sort) ∷ []) from.entry nodes.old nodes.new result }
 {
     match from.peek(from.next) {
-        Symbol::Array => arrays(from, nodes, how),
-        Symbol::Name => structures(from, nodes, how),
-        Symbol::Int | Symbol::Byte | Symbol::Ref => variables(from, nodes, how),
+        Symbol::Array => arrays(of, from, nodes),
+        Symbol::Name => structures(of, from, nodes),
+        Symbol::Int | Symbol::Byte | Symbol::Ref => variables(of, from, nodes),
         _ => {
             nodes[from.used] = Node::Nothing;
             Ok(Parsed {
@@ -168,29 +159,35 @@ fn dec(from: Spot<'_>, nodes: &mut [Node], how: Declaring) -> Result<Parsed, Fau
     }
 }
 
+/// Declarations with semicolons between them.
+#[derive(Clone, Copy)]
+struct DecList<D>(D);
+
+impl<D: Declares> Entries for DecList<D> {
+    ghost kind = { λ a. the_decs D.sort };
+
+    ghost slack = { 1 };
+
+    ghost goal = { λ a. all (the_decs D.sort) };
+
+    fn separator(self) -> Symbol {
+        Symbol::Semi
+    }
+
+    fn entry(self, from: Spot<'_>, nodes: &mut [Node]) -> Result<Parsed, Fault> {
+        dec(self.0, from, nodes)
+    }
+
+    ghost small = { Prim.search rules };
+
+    ghost begins = { λ a. decs_begin D.sort };
+}
+
 /// The declarations of a data brick, separated by semicolons.
-pub fn decs(from: Spot<'_>, nodes: &mut [Node], how: Declaring) -> Result<Parsed, Fault>
+pub fn decs<D: Declares>(of: D, from: Spot<'_>, nodes: &mut [Node]) -> Result<Parsed, Fault>
     requires within { from.next ≤ length from.symbols.now }
     requires room { Room 1 from nodes.old }
-    ensures { ReadsTo 1 (Many (Dec (Listing how))) (IsMany (IsDec (IsListing how))) (of_many (of_dec (of_listing how)) SEMI) (all (the_decs (sort_of how)) ∷ []) from.entry nodes.old nodes.new result }
+    ensures { ReadsTo 1 (Many (Dec (Listing D.sort))) (IsMany (IsDec (IsListing D.sort))) (of_many (of_dec (of_listing D.sort)) SEMI) (all (the_decs D.sort) ∷ []) from.entry nodes.old nodes.new result }
 {
-    let mut at = dec(from, nodes, how)?;
-    while from.peek(at.next) == Symbol::Semi {
-        let e = dec(
-            Spot {
-                next: at.next + 1,
-                used: at.used,
-                ..from
-            },
-            nodes,
-            how,
-        )?;
-        nodes[e.used] = Node::Also(at.root, e.root);
-        at = Parsed {
-            next: e.next,
-            used: e.used + 1,
-            root: e.used,
-        };
-    }
-    Ok(at)
+    read_list(DecList(of), from, nodes)
 }

@@ -9,10 +9,10 @@ ghost use Rattle.nodes.specs.Made.{Made, Way, Refused, FieldsWay, Shares, of_sha
 ghost use Rattle.nodes.specs.Nodes.{IsExpr, IsMode, IsAmode, IsFields, IsValue, IsValues, IsEntry, IsMany, IsName, IsInit};
 ghost use Rattle.grammar.specs.Symbols.{Says, among, STOP, LEFT, COMMA, REF, ARRAY, PLUS, MINUS};
 ghost use Rattle.grammar.specs.Trees.{Expr, of_expr, Mode, Amode, of_mode, of_amode, Fields, Value, Values, Entry, of_fields, of_value, of_values, of_entry, Many, Init, of_init, of_inits, of_name, of_names};
-ghost use Rattle.grammar.specs.Machine.{each, all, a_mode, an_amode, the_fields, a_value, entries, declareds, unset, set as set_sort, stored, inblock, Setting, Initial as InitialTree, of_initial};
-ghost use Rattle.declarations.specs.Declaring.{mode_firsts, IsInitial, goal_of};
+ghost use Rattle.grammar.specs.Machine.{each, all, a_mode, an_amode, the_fields, a_value, entries, declareds, unset, stored, inblock, Setting, Initial as InitialTree, of_initial, set as set_sort, Sort, Declared, of_declared};
+ghost use Rattle.declarations.specs.Declaring.{mode_firsts, goal_of, Listing, IsListing, of_listing};
+ghost use Rattle.nodes.specs.Lists.{IsInitial, IsDeclared};
 ghost use Rattle.std.proofs.Common.{rules};
-ghost use Rattle.nodes.specs.Lists.{names_list, stored_list, inblock_list, modes_list, described_list, storing_list};
 ghost use Rattle.nodes.proofs.Repeat.{declareds_begin};
 
 use expressions::expr;
@@ -400,9 +400,31 @@ fn shared(from: Spot<'_>, nodes: &mut [Node]) -> Parsed
     at
 }
 
+/// How names are declared.
+pub trait Declares: Copy {
+    ghost sort: { Sort };
+
+    /// Reads a declared name, with what follows it.
+    fn declared(self, from: Spot<'_>, nodes: &mut [Node]) -> Result<Parsed, Fault>
+        requires within { from.next ≤ length from.symbols.now }
+        requires room { Room 0 from nodes.old }
+        ensures { ReadsTo 0 (Declared sort) (IsDeclared sort) (of_declared sort) (each (declareds sort) ∷ []) from.entry nodes.old nodes.new result };
+}
+
+/// Names alone: what they name is described.
+#[derive(Clone, Copy)]
+pub struct Described;
+
+impl Declares for Described {
+    ghost sort = { unset };
+
+    fn declared(self, from: Spot<'_>, nodes: &mut [Node]) -> Result<Parsed, Fault> {
+        bare_name(from, nodes)
+    }
+}
+
 /// What may stand behind `:=` where a name is declared.
 trait Initial: Copy {
-    // where it stands
     ghost setting: { Setting };
 
     /// Reads an initial value.
@@ -412,9 +434,9 @@ trait Initial: Copy {
         ensures { ReadsTo 0 (InitialTree setting) (IsInitial setting) (of_initial setting) (goal_of setting ∷ []) from.entry nodes.old nodes.new result };
 }
 
-/// An initial value in a data brick.
+/// Names in a data brick, with initial values or without.
 #[derive(Clone, Copy)]
-struct Stored;
+pub struct Stored;
 
 impl Initial for Stored {
     ghost setting = { stored };
@@ -424,9 +446,17 @@ impl Initial for Stored {
     }
 }
 
-/// An initial value of a local.
+impl Declares for Stored {
+    ghost sort = { set_sort stored };
+
+    fn declared(self, from: Spot<'_>, nodes: &mut [Node]) -> Result<Parsed, Fault> {
+        initialized(self, from, nodes)
+    }
+}
+
+/// Locals of a body, with initial values or without.
 #[derive(Clone, Copy)]
-struct InBlock;
+pub struct InBlock;
 
 impl Initial for InBlock {
     ghost setting = { inblock };
@@ -436,8 +466,16 @@ impl Initial for InBlock {
     }
 }
 
+impl Declares for InBlock {
+    ghost sort = { set_sort inblock };
+
+    fn declared(self, from: Spot<'_>, nodes: &mut [Node]) -> Result<Parsed, Fault> {
+        initialized(self, from, nodes)
+    }
+}
+
 /// A declared name, with its initial value.
-fn declared<V: Initial>(of: V, from: Spot<'_>, nodes: &mut [Node]) -> Result<Parsed, Fault>
+fn initialized<V: Initial>(of: V, from: Spot<'_>, nodes: &mut [Node]) -> Result<Parsed, Fault>
     requires within { from.next ≤ length from.symbols.now }
     requires room { Room 0 from nodes.old }
     ensures { ReadsTo 0 (Init (InitialTree V.setting)) (IsInit (IsInitial V.setting)) (of_init (of_initial V.setting)) (each (declareds (set_sort V.setting)) ∷ []) from.entry nodes.old nodes.new result }
@@ -485,98 +523,35 @@ fn bare_name(from: Spot<'_>, nodes: &mut [Node]) -> Result<Parsed, Fault>
     })
 }
 
-/// Names with commas between them.
+/// Names as they are declared, with commas between them.
 #[derive(Clone, Copy)]
-struct NameList;
+struct NameList<D>(D);
 
-impl Entries for NameList {
-    ghost kind = { λ a. names_list };
+impl<D: Declares> Entries for NameList<D> {
+    ghost kind = { λ a. declareds D.sort };
 
     ghost slack = { 0 };
 
-    ghost goal = { λ a. all (declareds unset) };
+    ghost goal = { λ a. all (declareds D.sort) };
 
     fn separator(self) -> Symbol {
         Symbol::Comma
     }
 
     fn entry(self, from: Spot<'_>, nodes: &mut [Node]) -> Result<Parsed, Fault> {
-        bare_name(from, nodes)
+        self.0.declared(from, nodes)
     }
 
     ghost small = { Prim.search rules };
 
-    ghost begins = { λ a. declareds_begin unset };
+    ghost begins = { λ a. declareds_begin D.sort };
 }
 
-pub fn names(from: Spot<'_>, nodes: &mut [Node]) -> Result<Parsed, Fault>
+/// Names as they are declared, separated by commas.
+pub fn names<D: Declares>(of: D, from: Spot<'_>, nodes: &mut [Node]) -> Result<Parsed, Fault>
     requires within { from.next ≤ length from.symbols.now }
     requires room { Room 0 from nodes.old }
-    ensures { ReadsTo 0 (Many ℕ) (IsMany IsName) of_names (all (declareds unset) ∷ []) from.entry nodes.old nodes.new result }
+    ensures { ReadsTo 0 (Listing D.sort) (IsListing D.sort) (of_listing D.sort) (all (declareds D.sort) ∷ []) from.entry nodes.old nodes.new result }
 {
-    read_list(NameList, from, nodes)
-}
-
-/// The names of a data brick with commas between them.
-#[derive(Clone, Copy)]
-struct StoredList;
-
-impl Entries for StoredList {
-    ghost kind = { λ a. stored_list };
-
-    ghost slack = { 0 };
-
-    ghost goal = { λ a. all (declareds (set_sort stored)) };
-
-    fn separator(self) -> Symbol {
-        Symbol::Comma
-    }
-
-    fn entry(self, from: Spot<'_>, nodes: &mut [Node]) -> Result<Parsed, Fault> {
-        declared(Stored, from, nodes)
-    }
-
-    ghost small = { Prim.search rules };
-
-    ghost begins = { λ a. declareds_begin (set_sort stored) };
-}
-
-pub fn stored_inits(from: Spot<'_>, nodes: &mut [Node]) -> Result<Parsed, Fault>
-    requires within { from.next ≤ length from.symbols.now }
-    requires room { Room 0 from nodes.old }
-    ensures { ReadsTo 0 (Many (Init Value)) (IsMany (IsInit IsValue)) (of_inits of_value) (all (declareds (set_sort stored)) ∷ []) from.entry nodes.old nodes.new result }
-{
-    read_list(StoredList, from, nodes)
-}
-
-/// Locals with commas between them.
-#[derive(Clone, Copy)]
-struct LocalList;
-
-impl Entries for LocalList {
-    ghost kind = { λ a. inblock_list };
-
-    ghost slack = { 0 };
-
-    ghost goal = { λ a. all (declareds (set_sort inblock)) };
-
-    fn separator(self) -> Symbol {
-        Symbol::Comma
-    }
-
-    fn entry(self, from: Spot<'_>, nodes: &mut [Node]) -> Result<Parsed, Fault> {
-        declared(InBlock, from, nodes)
-    }
-
-    ghost small = { Prim.search rules };
-
-    ghost begins = { λ a. declareds_begin (set_sort inblock) };
-}
-
-pub fn local_inits(from: Spot<'_>, nodes: &mut [Node]) -> Result<Parsed, Fault>
-    requires within { from.next ≤ length from.symbols.now }
-    requires room { Room 0 from nodes.old }
-    ensures { ReadsTo 0 (Many (Init (Expr 5))) (IsMany (IsInit IsExpr)) (of_inits of_expr) (all (declareds (set_sort inblock)) ∷ []) from.entry nodes.old nodes.new result }
-{
-    read_list(LocalList, from, nodes)
+    read_list(NameList(of), from, nodes)
 }

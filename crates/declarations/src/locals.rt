@@ -8,7 +8,7 @@ ghost use Rattle.grammar.specs.Machine.{a_body};
 ghost use Rattle.declarations.specs.Declaring.{mode_firsts};
 ghost use Rattle.declarations.specs.Bodies.{LocalWay, LocalsWay, of_ended};
 
-use crate::{begins_mode, local_inits, mode};
+use crate::{InBlock, begins_mode, mode, names};
 use grammar::Symbol;
 use nodes::{Fault, Node, Parsed, Spot};
 
@@ -20,7 +20,8 @@ fn local(from: Spot<'_>, nodes: &mut [Node]) -> Result<Parsed, Fault>
     ensures { MatchResult result (λ p. Made 0 Local IsLocal of_ended (LocalWay from.entry.depth from.entry.symbols.now from.entry.next) from.entry.symbols.now from.entry.next from.entry.used nodes.old nodes.new p × (p.used + 2 * from.entry.next < 2 * p.next + from.entry.used)) (λ f. Refused (a_body ∷ []) from.entry.depth from.entry.symbols.now from.entry.next f) }
 {
     let m = mode(from, nodes)?;
-    let n = local_inits(
+    let n = names(
+        InBlock,
         Spot {
             next: m.next,
             used: m.used,

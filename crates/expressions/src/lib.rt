@@ -8,7 +8,6 @@ ghost use Rattle.grammar.specs.Symbols.{among, STOP, LEFT, RIGHT, NAME};
 ghost use Rattle.grammar.specs.Trees.{Expr, Exprs, Primary, Term, Variable, token, key, of_expr, of_exprs, of_primary, of_term, of_variable, Comparison, Subcondition, Condition, of_comparison, of_subcondition, of_condition};
 ghost use Rattle.grammar.specs.Machine.{an_expr, a_primary, a_term, tok, each, all, ands, ors};
 ghost use Rattle.std.proofs.Common.{rules};
-ghost use Rattle.nodes.specs.Lists.{ands_list, ors_list};
 ghost use Rattle.nodes.proofs.Repeat.{ors_begin, conditions_begin};
 
 use grammar::Symbol;
@@ -361,7 +360,7 @@ fn comparison(from: Spot<'_>, nodes: &mut [Node]) -> Result<Parsed, Fault>
 struct Comparisons;
 
 impl Entries for Comparisons {
-    ghost kind = { λ a. ands_list };
+    ghost kind = { λ a. ands };
 
     ghost slack = { 0 };
 
@@ -385,7 +384,7 @@ impl Entries for Comparisons {
 struct Subconditions;
 
 impl Entries for Subconditions {
-    ghost kind = { λ a. ors_list };
+    ghost kind = { λ a. ors };
 
     ghost slack = { 0 };
 

@@ -4,7 +4,6 @@ use Rattle.grammar.specs.Symbols.{NAME, INTEGER, TEXT, COMMA, LEFT, RIGHT}
 use Rattle.grammar.specs.Machine.{all, entries}
 use Rattle.nodes.proofs.Build.{far}
 use Rattle.nodes.proofs.Repeat.{entries_begin, starts, first_refused, refused, goes, ends}
-use Rattle.nodes.specs.Lists.{entries_list}
 use Rattle.declarations.proofs.Initials.{value_none, made_constant, made_identifier, made_literal, list_deep, made_empty, list_refused, list_unclosed, made_list, entry_refused, made_once, times_deep, no_times, times_unclosed, made_repeated}
 use Rattle.grammar.proofs.Tests.{said, differs, agrees}
 use Rattle.declarations.proofs.+initials.Goals as goal
@@ -87,24 +86,24 @@ entry-returns t c =
 pub values-returns-in_err-at : goal.values-returns-in_err-at
 values-returns-in_err-at t c =
     let p = err_from_is_err_and c.from_residual.result c.from_residual.ensures.1 in
-    rw (p.1, p.2) (first_refused 0 (omega arith) entries_list (all entries) entries_begin c.args.from.depth c.args.from.symbols.now c.args.from.next c.args.from.used _ c.in_err-at.ensures)
+    rw (p.1, p.2) (first_refused 0 (omega arith) entries (all entries) entries_begin c.args.from.depth c.args.from.symbols.now c.args.from.next c.args.from.used _ c.in_err-at.ensures)
 
 pub values-loop-nodes-init : goal.values-loop-nodes-init
-values-loop-nodes-init t c = starts 0 (omega arith) entries_list (all entries) entries_begin c.args.from.depth c.args.from.symbols.now c.args.from.next c.args.from.used _ _ c.in_ok-at.at c.in_ok-at.ensures
+values-loop-nodes-init t c = starts 0 (omega arith) entries (all entries) entries_begin c.args.from.depth c.args.from.symbols.now c.args.from.next c.args.from.used _ _ c.in_ok-at.at c.in_ok-at.ensures
 
 pub values-returns-in_err-e : goal.values-returns-in_err-e
 values-returns-in_err-e t c =
     let p = err_from_is_err_and c.from_residual-in_err-e.result c.from_residual-in_err-e.ensures.1 in
     let e = (said _ _ _ c.loop-nodes-test.ensures) in
-    rw (p.1, p.2) (refused 0 (omega arith) entries_list (all entries) entries_begin c.args.from.depth c.args.from.symbols.now c.args.from.next c.args.from.used _ _ c.loop-nodes.at c.loop-nodes.invariant (c.peek.ensures.there (far COMMA _ refl e)) (sym c.peek.ensures.is ∙ e) _ c.in_err-e.ensures)
+    rw (p.1, p.2) (refused 0 (omega arith) entries (all entries) entries_begin c.args.from.depth c.args.from.symbols.now c.args.from.next c.args.from.used _ _ c.loop-nodes.at c.loop-nodes.invariant (c.peek.ensures.there (far COMMA _ refl e)) (sym c.peek.ensures.is ∙ e) _ c.in_err-e.ensures)
 
 pub values-loop-nodes-preserved : goal.values-loop-nodes-preserved
 values-loop-nodes-preserved t c =
     let e = (said _ _ _ c.loop-nodes-test.ensures) in
-    goes 0 (omega arith) entries_list (all entries) entries_begin c.args.from.depth c.args.from.symbols.now c.args.from.next c.args.from.used _ _ c.loop-nodes.at c.loop-nodes.invariant (c.peek.ensures.there (far COMMA _ refl e)) (sym c.peek.ensures.is ∙ e) _ c.in_ok-e.e (omega (arith, c.in_ok-e.ensures)) c.in_ok-e.ensures
+    goes 0 (omega arith) entries (all entries) entries_begin c.args.from.depth c.args.from.symbols.now c.args.from.next c.args.from.used _ _ c.loop-nodes.at c.loop-nodes.invariant (c.peek.ensures.there (far COMMA _ refl e)) (sym c.peek.ensures.is ∙ e) _ c.in_ok-e.e (omega (arith, c.in_ok-e.ensures)) c.in_ok-e.ensures
 
 pub values-returns : goal.values-returns
-values-returns t c = ends 0 (omega arith) entries_list (all entries) entries_begin c.args.from.depth c.args.from.symbols.now c.args.from.next c.args.from.used _ _ c.loop-nodes.at c.loop-nodes.invariant _ c.in_ok-at.ensures.kept (λ e. (said _ _ _ c.loop-nodes-test.ensures) (c.peek.ensures.is ∙ e))
+values-returns t c = ends 0 (omega arith) entries (all entries) entries_begin c.args.from.depth c.args.from.symbols.now c.args.from.next c.args.from.used _ _ c.loop-nodes.at c.loop-nodes.invariant _ c.in_ok-at.ensures.kept (λ e. (said _ _ _ c.loop-nodes-test.ensures) (c.peek.ensures.is ∙ e))
 
 pub value-returns-in-Integer : goal.value-returns-in-Integer
 value-returns-in-Integer t c =

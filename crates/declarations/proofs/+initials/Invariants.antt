@@ -1,7 +1,6 @@
 use Rattle.std.proofs.Common.{◌+◌, ◌-◌, ◌*◌, length}
 use Rattle.grammar.specs.Machine.{all, entries}
 use Rattle.nodes.proofs.Repeat.{SomeMade}
-use Rattle.nodes.specs.Lists.{entries_list}
 use Rattle.declarations.proofs.+initials.Given as goal
 
 abbrev pub decreases-values : goal.decreases-values
@@ -17,7 +16,7 @@ abbrev pub decreases-list : goal.decreases-list
 decreases-list l = 4 * l.from.depth
 
 abbrev pub invariant-values-loop-nodes : goal.invariant-values-loop-nodes
-invariant-values-loop-nodes l = SomeMade 0 entries_list (all entries) l.from.depth l.from.symbols.now l.from.next l.from.used l.initial.nodes l.nodes l.at
+invariant-values-loop-nodes l = SomeMade 0 entries (all entries) l.from.depth l.from.symbols.now l.from.next l.from.used l.initial.nodes l.nodes l.at
 
 abbrev pub decreases-values-loop-nodes : goal.decreases-values-loop-nodes
 decreases-values-loop-nodes l = length l.from.symbols.now - l.at.next

@@ -3,6 +3,6 @@ use Rattle.declarations.proofs.Storage.{made_nothing}
 use Rattle.declarations.proofs.bricks.dec.Goals as goal
 
 pub returns-in_default : goal.returns-in_default
-returns-in_default c =
+returns-in_default g c =
     let is = c.peek.ensures.is in
-    made_nothing c.args.how c.args.from.depth c.args.from.symbols.now c.args.from.next c.args.from.used c.args.nodes.now c.requires.within (λ e. c.in_default.not-Array (is ∙ e)) (λ e. c.in_default.not-Name (is ∙ e)) (λ e. c.in_default.not-Int (is ∙ e)) (λ e. c.in_default.not-Byte (is ∙ e)) (λ e. c.in_default.not-Ref (is ∙ e)) (omega arith)
+    made_nothing g.D.Declares.sort c.args.from.depth c.args.from.symbols.now c.args.from.next c.args.from.used c.args.nodes.now c.requires.within (λ e. c.in_default.not-Array (is ∙ e)) (λ e. c.in_default.not-Name (is ∙ e)) (λ e. c.in_default.not-Int (is ∙ e)) (λ e. c.in_default.not-Byte (is ∙ e)) (λ e. c.in_default.not-Ref (is ∙ e)) (omega arith)

@@ -4,9 +4,9 @@ use Rattle.declarations.proofs.Storage.{records_refused, made_structures}
 use Rattle.declarations.proofs.bricks.structures.Goals as goal
 
 pub returns-in_err-n : goal.returns-in_err-n
-returns-in_err-n c =
+returns-in_err-n g c =
     let p = err_from_is_err_and c.from_residual.result c.from_residual.ensures.1 in
-    rw (p.1, p.2) (records_refused c.args.how c.args.from.depth c.args.from.symbols.now c.args.from.next c.args.from.used c.requires.there c.requires.name _ c.in_err-n.ensures)
+    rw (p.1, p.2) (records_refused g.D.Declares.sort c.args.from.depth c.args.from.symbols.now c.args.from.next c.args.from.used c.requires.there c.requires.name _ c.in_err-n.ensures)
 
 pub returns : goal.returns
-returns c = made_structures c.args.how c.args.from.depth c.args.from.symbols.now c.args.from.next c.args.from.used c.requires.there c.requires.name _ _ c.in_ok-n.n (omega (arith, c.in_ok-n.ensures)) c.in_ok-n.ensures
+returns g c = made_structures g.D.Declares.sort c.args.from.depth c.args.from.symbols.now c.args.from.next c.args.from.used c.requires.there c.requires.name _ _ c.in_ok-n.n (omega (arith, c.in_ok-n.ensures)) c.in_ok-n.ensures

@@ -4,17 +4,17 @@ use Rattle.declarations.proofs.Storage.{mode_refused, variables_refused, made_va
 use Rattle.declarations.proofs.bricks.variables.Goals as goal
 
 pub returns-in_err-m : goal.returns-in_err-m
-returns-in_err-m c =
+returns-in_err-m g c =
     let p = err_from_is_err_and c.from_residual.result c.from_residual.ensures.1 in
-    rw (p.1, p.2) (mode_refused c.args.how c.args.from.depth c.args.from.symbols.now c.args.from.next c.args.from.used c.requires.there c.requires.begins _ c.in_err-m.ensures)
+    rw (p.1, p.2) (mode_refused g.D.Declares.sort c.args.from.depth c.args.from.symbols.now c.args.from.next c.args.from.used c.requires.there c.requires.begins _ c.in_err-m.ensures)
 
 pub returns-in_err-n : goal.returns-in_err-n
-returns-in_err-n c =
+returns-in_err-n g c =
     let p = err_from_is_err_and c.from_residual-in_err-n.result c.from_residual-in_err-n.ensures.1 in
-    rw (p.1, p.2) (variables_refused c.args.how c.args.from.depth c.args.from.symbols.now c.args.from.next c.args.from.used c.requires.there c.requires.begins _ _ c.in_ok-m.m c.in_ok-m.ensures _ c.in_err-n.ensures)
+    rw (p.1, p.2) (variables_refused g.D.Declares.sort c.args.from.depth c.args.from.symbols.now c.args.from.next c.args.from.used c.requires.there c.requires.begins _ _ c.in_ok-m.m c.in_ok-m.ensures _ c.in_err-n.ensures)
 
 pub returns : goal.returns
-returns c =
+returns g c =
     let m = c.in_ok-m.ensures in
     let l = c.in_ok-n.ensures in
-    made_variables c.args.how c.args.from.depth c.args.from.symbols.now c.args.from.next c.args.from.used c.requires.there c.requires.begins _ _ c.in_ok-m.m m _ c.in_ok-n.n (omega (arith, m.few, l.few, l.within)) l
+    made_variables g.D.Declares.sort c.args.from.depth c.args.from.symbols.now c.args.from.next c.args.from.used c.requires.there c.requires.begins _ _ c.in_ok-m.m m _ c.in_ok-n.n (omega (arith, m.few, l.few, l.within)) l

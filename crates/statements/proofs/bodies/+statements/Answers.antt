@@ -4,7 +4,6 @@ use Rattle.grammar.specs.Symbols.{THEN, ELSEIF, END, ENDBLOCK, TO, WHILE, DO, RE
 use Rattle.grammar.specs.Machine.{all, ors, statements, an_expr, a_body}
 use Rattle.nodes.proofs.Build.{far}
 use Rattle.nodes.proofs.Repeat.{statements_begin, starts, first_refused, refused, goes, ends}
-use Rattle.nodes.specs.Lists.{statements_list}
 use Rattle.declarations.proofs.Bodies.{statements_refused, made_body}
 use Rattle.statements.proofs.Blocks.{made_dummy, block_deep, block_refused, block_unclosed, made_block, arm_refused, no_then, then_refused, made_arm, branch_deep, first_arm_refused, first_arm, arms_end, further_arm_refused, further_arm, made_branch, else_refused, else_unclosed, made_else, no_end, head_refused, no_do, do_deep, do_refused, no_rep, to_opens, to_same, while_opens, while_same, made_repeat, made_loop}
 use Rattle.grammar.proofs.Tests.{said, differs, agrees}
@@ -225,16 +224,16 @@ while_loop-returns t c =
 pub sequence-returns-in_err-at : goal.sequence-returns-in_err-at
 sequence-returns-in_err-at t c =
     let p = err_from_is_err_and c.from_residual.result c.from_residual.ensures.1 in
-    rw (p.1, p.2) (first_refused 1 (omega arith) statements_list (all statements) statements_begin c.args.from.depth c.args.from.symbols.now c.args.from.next c.args.from.used _ c.in_err-at.ensures)
+    rw (p.1, p.2) (first_refused 1 (omega arith) statements (all statements) statements_begin c.args.from.depth c.args.from.symbols.now c.args.from.next c.args.from.used _ c.in_err-at.ensures)
 
 pub sequence-loop-nodes-init : goal.sequence-loop-nodes-init
-sequence-loop-nodes-init t c = starts 1 (omega arith) statements_list (all statements) statements_begin c.args.from.depth c.args.from.symbols.now c.args.from.next c.args.from.used _ _ c.in_ok-at.at c.in_ok-at.ensures
+sequence-loop-nodes-init t c = starts 1 (omega arith) statements (all statements) statements_begin c.args.from.depth c.args.from.symbols.now c.args.from.next c.args.from.used _ _ c.in_ok-at.at c.in_ok-at.ensures
 
 pub sequence-returns-in_err-e : goal.sequence-returns-in_err-e
 sequence-returns-in_err-e t c =
     let p = err_from_is_err_and c.from_residual-in_err-e.result c.from_residual-in_err-e.ensures.1 in
     let e = (said _ _ _ c.loop-nodes-test.ensures) in
-    rw (p.1, p.2) (refused 1 (omega arith) statements_list (all statements) statements_begin c.args.from.depth c.args.from.symbols.now c.args.from.next c.args.from.used _ _ c.loop-nodes.at c.loop-nodes.invariant (c.peek.ensures.there (far SEMI _ refl e)) (sym c.peek.ensures.is ∙ e) _ c.in_err-e.ensures)
+    rw (p.1, p.2) (refused 1 (omega arith) statements (all statements) statements_begin c.args.from.depth c.args.from.symbols.now c.args.from.next c.args.from.used _ _ c.loop-nodes.at c.loop-nodes.invariant (c.peek.ensures.there (far SEMI _ refl e)) (sym c.peek.ensures.is ∙ e) _ c.in_err-e.ensures)
 
 pub sequence-loop-nodes-preserved : goal.sequence-loop-nodes-preserved
 sequence-loop-nodes-preserved t c =
@@ -242,10 +241,10 @@ sequence-loop-nodes-preserved t c =
     let h = c.peek.ensures.there (far SEMI _ refl e) in
     let m = c.in_ok-e.ensures in
     let v = c.loop-nodes.invariant in
-    goes 1 (omega arith) statements_list (all statements) statements_begin c.args.from.depth c.args.from.symbols.now c.args.from.next c.args.from.used _ _ c.loop-nodes.at v h (sym c.peek.ensures.is ∙ e) _ c.in_ok-e.e (omega (arith, m.few, m.within, v.few, h, c.requires.room)) m
+    goes 1 (omega arith) statements (all statements) statements_begin c.args.from.depth c.args.from.symbols.now c.args.from.next c.args.from.used _ _ c.loop-nodes.at v h (sym c.peek.ensures.is ∙ e) _ c.in_ok-e.e (omega (arith, m.few, m.within, v.few, h, c.requires.room)) m
 
 pub sequence-returns : goal.sequence-returns
-sequence-returns t c = ends 1 (omega arith) statements_list (all statements) statements_begin c.args.from.depth c.args.from.symbols.now c.args.from.next c.args.from.used _ _ c.loop-nodes.at c.loop-nodes.invariant _ c.in_ok-at.ensures.kept (λ e. (said _ _ _ c.loop-nodes-test.ensures) (c.peek.ensures.is ∙ e))
+sequence-returns t c = ends 1 (omega arith) statements (all statements) statements_begin c.args.from.depth c.args.from.symbols.now c.args.from.next c.args.from.used _ _ c.loop-nodes.at c.loop-nodes.invariant _ c.in_ok-at.ensures.kept (λ e. (said _ _ _ c.loop-nodes-test.ensures) (c.peek.ensures.is ∙ e))
 
 pub statement-returns-in_default : goal.statement-returns-in_default
 statement-returns-in_default t c =

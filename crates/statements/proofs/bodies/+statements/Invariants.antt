@@ -1,7 +1,6 @@
 use Rattle.std.proofs.Common.{◌+◌, ◌-◌, ◌*◌, ◌<◌, length}
 use Rattle.grammar.specs.Machine.{all, statements}
 use Rattle.nodes.proofs.Repeat.{SomeMade}
-use Rattle.nodes.specs.Lists.{statements_list}
 use Rattle.statements.proofs.Blocks.{ArmsMade}
 use Rattle.statements.proofs.bodies.+statements.Given as goal
 
@@ -42,7 +41,7 @@ abbrev pub decreases-arms-loop-nodes : goal.decreases-arms-loop-nodes
 decreases-arms-loop-nodes l = length l.from.symbols.now - l.at.next
 
 abbrev pub invariant-sequence-loop-nodes : goal.invariant-sequence-loop-nodes
-invariant-sequence-loop-nodes l = SomeMade 1 statements_list (all statements) l.from.depth l.from.symbols.now l.from.next l.from.used l.initial.nodes l.nodes l.at
+invariant-sequence-loop-nodes l = SomeMade 1 statements (all statements) l.from.depth l.from.symbols.now l.from.next l.from.used l.initial.nodes l.nodes l.at
 
 abbrev pub decreases-sequence-loop-nodes : goal.decreases-sequence-loop-nodes
 decreases-sequence-loop-nodes l = length l.from.symbols.now - l.at.next

@@ -4,7 +4,7 @@ use Rattle.grammar.specs.Symbols.{NAME}
 use Rattle.nodes.proofs.Build.{far}
 use Rattle.declarations.proofs.Sharing.{no_name, made_plain, init_refused, made_given}
 use Rattle.grammar.proofs.Tests.{differs, agrees}
-use Rattle.declarations.proofs.declared.Goals as goal
+use Rattle.declarations.proofs.initialized.Goals as goal
 
 pub returns-then-ne : goal.returns-then-ne
 returns-then-ne g c =
