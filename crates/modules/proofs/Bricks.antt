@@ -4,7 +4,7 @@ use Rattle.grammar.specs.Symbols.{STOP, NAME, SEMI, DATA, ENDDATA, PROC, ENDPROC
 use Rattle.grammar.specs.declared.Symbol.{Symbol}
 use Rattle.grammar.specs.Trees.{Token, token, key, Many, of_many, Opt, of_opt, Dec, of_dec, Fields, of_fields, Mode, of_mode, of_body, Brick, store, procedure, of_brick}
 use Rattle.grammar.specs.Sentences.{items}
-use Rattle.grammar.specs.Machine.{Goal, refuse, tok, all, decs, maybe_fields, maybe_mode, a_brick, a_body, fewer}
+use Rattle.grammar.specs.Machine.{Goal, refuse, tok, all, decs, maybe_fields, maybe_mode, a_brick, a_body, fewer, Sort, set as set_sort, stored}
 use Rattle.grammar.proofs.Steps.{items_here, step_at, sink_at, refuse_at, refuses}
 use Rattle.nodes.proofs.Build.{grown, not_on, token_refused, fewer_is, more_is}
 use Rattle.nodes.proofs.Keep.{keep_many, keep_opt, keep_dec, keep_init, keep_value, keep_fields, keep_mode, keep_body, agree_trans}
@@ -15,16 +15,14 @@ use Rattle.nodes.specs.declared.Node.TheVariants as node
 use Rattle.nodes.specs.declared.Parsed.{Parsed}
 use Rattle.nodes.specs.declared.Fault.{Fault}
 use Rattle.nodes.specs.declared.Fault.TheVariants.{Syntax, Deep}
-use Rattle.declarations.specs.Declaring.{sort_of, Listing, IsListing, of_listing}
-use Rattle.declarations.specs.declared.bricks.Declaring.{Declaring}
-use Rattle.declarations.specs.declared.bricks.Declaring.TheVariants.{Stored}
+use Rattle.declarations.specs.Declaring.{Listing, IsListing, of_listing}
 use Rattle.statements.proofs.Blocks.{BodyMade}
 use Rattle.modules.specs.Bricks.{Storing, of_storing, Head, of_head, IsHead, HeadWay}
 
-abbrev pub DecsMade : (how : Declaring) → ℕ → List Symbol → ℕ → ℕ → List Node → List Node → Parsed → Type 0
-DecsMade how d s i used ns ms p = Made 1 (Many (Dec (Listing how))) (IsMany (IsDec (IsListing how))) (of_many (of_dec (of_listing how)) SEMI) (Way (all (decs (sort_of how)) ∷ []) d s i) s i used ns ms p
+abbrev pub DecsMade : (how : Sort) → ℕ → List Symbol → ℕ → ℕ → List Node → List Node → Parsed → Type 0
+DecsMade how d s i used ns ms p = Made 1 (Many (Dec (Listing how))) (IsMany (IsDec (IsListing how))) (of_many (of_dec (of_listing how)) SEMI) (Way (all (decs how) ∷ []) d s i) s i used ns ms p
 
-abbrev pub StoringMade : (how : Declaring) → ℕ → List Symbol → ℕ → ℕ → List Node → List Node → Parsed → Type 0
+abbrev pub StoringMade : (how : Sort) → ℕ → List Symbol → ℕ → ℕ → List Node → List Node → Parsed → Type 0
 StoringMade how d s i used ns ms p = Made 0 (Many (Dec (Listing how))) (IsMany (IsDec (IsListing how))) (of_storing how i) (Way (Storing how) d s i) s i used ns ms p
 
 abbrev pub BrickMade : ℕ → List Symbol → ℕ → ℕ → List Node → List Node → Parsed → Type 0
@@ -34,25 +32,25 @@ abbrev pub HeadMade : ℕ → List Symbol → ℕ → ℕ → List Node → List
 HeadMade d s i used ns ms p = Made 0 Head (IsHead i) (of_head i) (HeadWay d s i) s i used ns ms p
 
 -- a name and declarations
-module _ (how : Declaring) (d : ℕ) (s : List Symbol) (i used : ℕ) where
+module _ (how : Sort) (d : ℕ) (s : List Symbol) (i used : ℕ) where
   pub no_brick_name : (get_or s i STOP ≡ NAME → ⊥) → Refused (Storing how) d s i (Syntax i)
-  no_brick_name n α = token_refused d NAME (tok SEMI ∷ all (decs (sort_of how)) ∷ tok ENDDATA ∷ α) s i n
+  no_brick_name n α = token_refused d NAME (tok SEMI ∷ all (decs how) ∷ tok ENDDATA ∷ α) s i n
 
   module _ (h : i < length s) (q : get_or s i STOP ≡ NAME) where
-    name_way : (α : List Goal) → at d (Storing how ++ α) s i ≡ at d (tok SEMI ∷ all (decs (sort_of how)) ∷ tok ENDDATA ∷ α) s (i + 1)
-    name_way α = step_at d (Storing how ++ α) (tok SEMI ∷ all (decs (sort_of how)) ∷ tok ENDDATA ∷ α) s i d NAME h q refl refl
+    name_way : (α : List Goal) → at d (Storing how ++ α) s i ≡ at d (tok SEMI ∷ all (decs how) ∷ tok ENDDATA ∷ α) s (i + 1)
+    name_way α = step_at d (Storing how ++ α) (tok SEMI ∷ all (decs how) ∷ tok ENDDATA ∷ α) s i d NAME h q refl refl
 
     pub no_brick_semi : (get_or s (i + 1) STOP ≡ SEMI → ⊥) → Refused (Storing how) d s i (Syntax (i + 1))
-    no_brick_semi n α = name_way α ∙ token_refused d SEMI (all (decs (sort_of how)) ∷ tok ENDDATA ∷ α) s (i + 1) n
+    no_brick_semi n α = name_way α ∙ token_refused d SEMI (all (decs how) ∷ tok ENDDATA ∷ α) s (i + 1) n
 
     module _ (h' : i + 1 < length s) (q' : get_or s (i + 1) STOP ≡ SEMI) where
       two : i + 1 + 1 ≡ i + 2
       two = omega arith
 
-      semi_way : (α : List Goal) → at d (Storing how ++ α) s i ≡ at d (all (decs (sort_of how)) ∷ tok ENDDATA ∷ α) s (i + 2)
-      semi_way α = name_way α ∙ step_at d (tok SEMI ∷ all (decs (sort_of how)) ∷ tok ENDDATA ∷ α) (all (decs (sort_of how)) ∷ tok ENDDATA ∷ α) s (i + 1) d SEMI h' q' refl refl ∙ ap (λ (j : ℕ). at d (all (decs (sort_of how)) ∷ tok ENDDATA ∷ α) s j) two
+      semi_way : (α : List Goal) → at d (Storing how ++ α) s i ≡ at d (all (decs how) ∷ tok ENDDATA ∷ α) s (i + 2)
+      semi_way α = name_way α ∙ step_at d (tok SEMI ∷ all (decs how) ∷ tok ENDDATA ∷ α) (all (decs how) ∷ tok ENDDATA ∷ α) s (i + 1) d SEMI h' q' refl refl ∙ ap (λ (j : ℕ). at d (all (decs how) ∷ tok ENDDATA ∷ α) s j) two
 
-      pub decs_refused : (f : Fault) → Refused (all (decs (sort_of how)) ∷ []) d s (i + 2) f → Refused (Storing how) d s i f
+      pub decs_refused : (f : Fault) → Refused (all (decs how) ∷ []) d s (i + 2) f → Refused (Storing how) d s i f
       decs_refused f r α = semi_way α ∙ r (tok ENDDATA ∷ α)
 
       module _ (ns ms : List Node) (p : Parsed) (m : DecsMade how d s (i + 2) used ns ms p) where
@@ -72,18 +70,18 @@ module _ (how : Declaring) (d : ℕ) (s : List Symbol) (i used : ℕ) where
           met = λ α. semi_way α ∙ m.met (tok ENDDATA ∷ α) ∙ step_at d (tok ENDDATA ∷ α) α s p.next d ENDDATA h'' q'' refl refl;
         }
 
-keep_decs : (n : ℕ) (ns ms : List Node) → Agree n ns ms → (t : Many (Dec (Listing Stored))) (k : ℕ) → k < n → IsMany (IsDec (IsListing Stored)) t ns k → IsMany (IsDec (IsListing Stored)) t ms k
+keep_decs : (n : ℕ) (ns ms : List Node) → Agree n ns ms → (t : Many (Dec (Listing (set_sort stored)))) (k : ℕ) → k < n → IsMany (IsDec (IsListing (set_sort stored))) t ns k → IsMany (IsDec (IsListing (set_sort stored))) t ms k
 keep_decs n ns ms a t k h is = keep_many n ns ms a (IsDec (IsMany (IsInit IsValue))) (keep_dec n ns ms a (IsMany (IsInit IsValue)) (keep_many n ns ms a (IsInit IsValue) (keep_init n ns ms a IsValue (keep_value n ns ms a)))) t k h is
 
 -- a data brick
 module _ (d : ℕ) (s : List Symbol) (i used : ℕ) (h : i < length s) (q : get_or s i STOP ≡ DATA) where
-  data_way : (α : List Goal) → at d (a_brick ∷ α) s i ≡ at d (Storing Stored ++ α) s (i + 1)
-  data_way α = step_at d (a_brick ∷ α) (Storing Stored ++ α) s i d DATA h q refl refl
+  data_way : (α : List Goal) → at d (a_brick ∷ α) s i ≡ at d (Storing (set_sort stored) ++ α) s (i + 1)
+  data_way α = step_at d (a_brick ∷ α) (Storing (set_sort stored) ++ α) s i d DATA h q refl refl
 
-  pub data_refused : (f : Fault) → Refused (Storing Stored) d s (i + 1) f → Refused (a_brick ∷ []) d s i f
+  pub data_refused : (f : Fault) → Refused (Storing (set_sort stored)) d s (i + 1) f → Refused (a_brick ∷ []) d s i f
   data_refused f r α = data_way α ∙ r α
 
-  pub made_data : (ns ms : List Node) (p : Parsed) → p.used < length ms → StoringMade Stored d s (i + 1) used ns ms p → BrickMade d s i used ns (set ms p.used (node.Store (i + 1) p.root)) (record { next = p.next; used = p.used + 1; root = p.used }) × (p.used + 1 + 2 * i < 2 * p.next + used)
+  pub made_data : (ns ms : List Node) (p : Parsed) → p.used < length ms → StoringMade (set_sort stored) d s (i + 1) used ns ms p → BrickMade d s i used ns (set ms p.used (node.Store (i + 1) p.root)) (record { next = p.next; used = p.used + 1; root = p.used }) × (p.used + 1 + 2 * i < 2 * p.next + used)
   made_data ns ms p r m = (
     grown 0 IsBrick of_brick (Way (a_brick ∷ []) d s i) s i used ns ms p.used p.next (node.Store (i + 1) p.root) r (store (i + 1) m.tree) m.within m.more (omega (arith, m.few)) m.kept
         (λ g a. (p.root, m.below, a, keep_decs p.used ms _ g m.tree p.root m.below m.is))

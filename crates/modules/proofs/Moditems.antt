@@ -16,7 +16,6 @@ use Rattle.nodes.specs.declared.Node.TheVariants as node
 use Rattle.nodes.specs.declared.Parsed.{Parsed}
 use Rattle.nodes.specs.declared.Fault.{Fault}
 use Rattle.nodes.specs.declared.Fault.TheVariants.{Syntax, Deep}
-use Rattle.declarations.specs.declared.bricks.Declaring.TheVariants.{Described}
 use Rattle.modules.specs.Bricks.{brick_firsts, Storing}
 use Rattle.modules.proofs.Bricks.{StoringMade, BrickMade, ResultMade}
 
@@ -128,13 +127,13 @@ module _ (d : ℕ) (s : List Symbol) (i used : ℕ) (h : i < length s) (q : get_
 
   module _ (h₁ : i + 1 < length s) where
     module _ (q₁ : get_or s (i + 1) STOP ≡ DATA) where
-      ext_data_way : (α : List Goal) → at d (each moditems ∷ α) s i ≡ at d (Storing Described ++ α) s (i + 2)
-      ext_data_way α = ext_way α ∙ step_at d (an_external ∷ α) (Storing Described ++ α) s (i + 1) d DATA h₁ q₁ refl refl ∙ ap (λ (j : ℕ). at d (Storing Described ++ α) s j) two
+      ext_data_way : (α : List Goal) → at d (each moditems ∷ α) s i ≡ at d (Storing unset ++ α) s (i + 2)
+      ext_data_way α = ext_way α ∙ step_at d (an_external ∷ α) (Storing unset ++ α) s (i + 1) d DATA h₁ q₁ refl refl ∙ ap (λ (j : ℕ). at d (Storing unset ++ α) s j) two
 
-      pub ext_data_refused : (f : Fault) → Refused (Storing Described) d s (i + 2) f → Refused (each moditems ∷ []) d s i f
+      pub ext_data_refused : (f : Fault) → Refused (Storing unset) d s (i + 2) f → Refused (each moditems ∷ []) d s i f
       ext_data_refused f r α = ext_data_way α ∙ r α
 
-      pub made_ext_data : (ns ms : List Node) (p : Parsed) → p.used < length ms → StoringMade Described d s (i + 2) used ns ms p → ModitemMade d s i used ns (set ms p.used (node.ExternalStore (i + 2) p.root)) (record { next = p.next; used = p.used + 1; root = p.used })
+      pub made_ext_data : (ns ms : List Node) (p : Parsed) → p.used < length ms → StoringMade unset d s (i + 2) used ns ms p → ModitemMade d s i used ns (set ms p.used (node.ExternalStore (i + 2) p.root)) (record { next = p.next; used = p.used + 1; root = p.used })
       made_ext_data ns ms p r m =
           grown 1 IsModitem of_moditem (Way (each moditems ∷ []) d s i) s i used ns ms p.used p.next (node.ExternalStore (i + 2) p.root) r (external_store (i + 2) m.tree) m.within m.more (omega (arith, m.few)) m.kept
           (λ g x. (p.root, m.below, x, keep_many p.used ms _ g (IsDec (IsMany IsName)) (keep_dec p.used ms _ g (IsMany IsName) (keep_many p.used ms _ g IsName (keep_name p.used ms _ g))) m.tree p.root m.below m.is))

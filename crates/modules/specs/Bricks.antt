@@ -3,23 +3,22 @@ use Rattle.std.specs.Prelude.{◌≡◌, ℕ, ◌+◌, ◌<◌, List, [], ◌∷
 use Rattle.grammar.specs.Symbols.{NAME, SEMI, ENDDATA, ENDPROC, PROC, DATA, LEFT, RIGHT}
 use Rattle.grammar.specs.declared.Symbol.{Symbol}
 use Rattle.grammar.specs.Trees.{Token, token, key, Many, of_many, Opt, of_opt, Dec, of_dec, Fields, of_fields, Mode, of_mode}
-use Rattle.grammar.specs.Machine.{Goal, tok, all, decs, a_brick, a_body}
+use Rattle.grammar.specs.Machine.{Goal, tok, all, decs, a_brick, a_body, Sort}
 use Rattle.nodes.specs.Made.{at}
 use Rattle.nodes.specs.Nodes.{At, IsOpt, IsFields, IsMode}
 use Rattle.nodes.specs.declared.Node.{Node}
 use Rattle.nodes.specs.declared.Node.TheVariants.{Heading}
-use Rattle.declarations.specs.Declaring.{sort_of, Listing, of_listing}
-use Rattle.declarations.specs.declared.bricks.Declaring.{Declaring}
+use Rattle.declarations.specs.Declaring.{Listing, of_listing}
 
 -- the terminals that a brick begins with
 abbrev pub brick_firsts : List Symbol
 brick_firsts = DATA ∷ PROC ∷ []
 
 -- what follows DATA: a name, at i, and declarations up to ENDDATA
-abbrev pub Storing : Declaring → List Goal
-Storing how = tok NAME ∷ tok SEMI ∷ all (decs (sort_of how)) ∷ tok ENDDATA ∷ []
+abbrev pub Storing : Sort → List Goal
+Storing how = tok NAME ∷ tok SEMI ∷ all (decs how) ∷ tok ENDDATA ∷ []
 
-abbrev pub of_storing : (how : Declaring) → ℕ → Many (Dec (Listing how)) → List Token → List Token
+abbrev pub of_storing : (how : Sort) → ℕ → Many (Dec (Listing how)) → List Token → List Token
 of_storing how i ds r = token NAME i ∷ key SEMI ∷ of_many (of_dec (of_listing how)) SEMI ds (key ENDDATA ∷ r)
 
 -- a procedure up to its body, PROC being at i: parameters and result

@@ -10,10 +10,13 @@ ghost use Rattle.nodes.specs.Made.{Made, Way, Refused, answer, Room, ReadsTo};
 ghost use Rattle.nodes.specs.Nodes.{IsOpt, IsMany, IsDec, IsFields, IsMode, IsBrick, IsModitem, IsModule};
 ghost use Rattle.declarations.specs.Declaring.{Listing, IsListing};
 ghost use Rattle.modules.specs.Bricks.{brick_firsts, Storing, of_storing, Head, of_head, IsHead, HeadWay};
+ghost use Rattle.std.proofs.Common.{rules};
+ghost use Rattle.nodes.proofs.Repeat.{moditems_begin};
 
-use declarations::bricks::{Declaring, decs, modes};
-use declarations::{begins_mode, fields, mode, names};
+use declarations::bricks::{decs, modes};
+use declarations::{Declares, Described, Stored, begins_mode, fields, mode, names};
 use grammar::Symbol;
+use nodes::lists::{Entries, read_list};
 use nodes::{Fault, Node, Parsed, Spot};
 use statements::bodies::body;
 
@@ -72,10 +75,10 @@ fn maybe_modes(from: Spot<'_>, nodes: &mut [Node]) -> Result<Parsed, Fault>
 }
 
 /// The name of a data brick, at i, and its declarations up to ENDDATA.
-fn storing(from: Spot<'_>, nodes: &mut [Node], how: Declaring) -> Result<Parsed, Fault>
+fn storing<D: Declares>(of: D, from: Spot<'_>, nodes: &mut [Node]) -> Result<Parsed, Fault>
     requires within { from.next ≤ length from.symbols.now }
     requires room { Room 0 from nodes.old }
-    ensures { ReadsTo 0 (Many (Dec (Listing how))) (IsMany (IsDec (IsListing how))) (of_storing how from.entry.next) (Storing how) from.entry nodes.old nodes.new result }
+    ensures { ReadsTo 0 (Many (Dec (Listing D.sort))) (IsMany (IsDec (IsListing D.sort))) (of_storing D.sort from.entry.next) (Storing D.sort) from.entry nodes.old nodes.new result }
 {
     if from.peek(from.next) != Symbol::Name {
         return Err(Fault::Syntax(from.next));
@@ -84,12 +87,12 @@ fn storing(from: Spot<'_>, nodes: &mut [Node], how: Declaring) -> Result<Parsed,
         return Err(Fault::Syntax(from.next + 1));
     }
     let d = decs(
+        of,
         Spot {
             next: from.next + 2,
             ..from
         },
         nodes,
-        how,
     )?;
     if from.peek(d.next) != Symbol::Enddata {
         return Err(Fault::Syntax(d.next));
@@ -109,12 +112,12 @@ fn data_brick(from: Spot<'_>, nodes: &mut [Node]) -> Result<Parsed, Fault>
     ensures { MatchResult result (λ p. Made 0 Brick IsBrick of_brick (Way (a_brick ∷ []) from.entry.depth from.entry.symbols.now from.entry.next) from.entry.symbols.now from.entry.next from.entry.used nodes.old nodes.new p × (p.used + 2 * from.entry.next < 2 * p.next + from.entry.used)) (λ f. Refused (a_brick ∷ []) from.entry.depth from.entry.symbols.now from.entry.next f) }
 {
     let d = storing(
+        Stored,
         Spot {
             next: from.next + 1,
             ..from
         },
         nodes,
-        Declaring::Stored,
     )?;
     nodes[d.used] = Node::Store(from.next + 1, d.root);
     Ok(Parsed {
@@ -244,6 +247,7 @@ fn external_procs(from: Spot<'_>, nodes: &mut [Node]) -> Result<Parsed, Fault>
         nodes,
     )?;
     let n = names(
+        Described,
         Spot {
             next: m.next,
             used: m.used,
@@ -268,12 +272,12 @@ fn external_store(from: Spot<'_>, nodes: &mut [Node]) -> Result<Parsed, Fault>
     ensures { ReadsTo 1 Moditem IsModitem of_moditem (each moditems ∷ []) from.entry nodes.old nodes.new result }
 {
     let d = storing(
+        Described,
         Spot {
             next: from.next + 2,
             ..from
         },
         nodes,
-        Declaring::Described,
     )?;
     nodes[d.used] = Node::ExternalStore(from.next + 2, d.root);
     Ok(Parsed {
@@ -393,30 +397,28 @@ fn moditem(from: Spot<'_>, nodes: &mut [Node]) -> Result<Parsed, Fault>
     }
 }
 
-/// The items of a module, separated by semicolons.
-fn module_items(from: Spot<'_>, nodes: &mut [Node]) -> Result<Parsed, Fault>
-    requires within { from.next ≤ length from.symbols.now }
-    requires room { Room 1 from nodes.old }
-    ensures { ReadsTo 1 Module IsModule of_module (all moditems ∷ []) from.entry nodes.old nodes.new result }
-{
-    let mut at = moditem(from, nodes)?;
-    while from.peek(at.next) == Symbol::Semi {
-        let e = moditem(
-            Spot {
-                next: at.next + 1,
-                used: at.used,
-                ..from
-            },
-            nodes,
-        )?;
-        nodes[e.used] = Node::Also(at.root, e.root);
-        at = Parsed {
-            next: e.next,
-            used: e.used + 1,
-            root: e.used,
-        };
+/// Items of a module with semicolons between them.
+#[derive(Clone, Copy)]
+struct ItemList;
+
+impl Entries for ItemList {
+    ghost kind = { λ a. moditems };
+
+    ghost slack = { 1 };
+
+    ghost goal = { λ a. all moditems };
+
+    fn separator(self) -> Symbol {
+        Symbol::Semi
     }
-    Ok(at)
+
+    fn entry(self, from: Spot<'_>, nodes: &mut [Node]) -> Result<Parsed, Fault> {
+        moditem(from, nodes)
+    }
+
+    ghost small = { Prim.search rules };
+
+    ghost begins = { λ a. moditems_begin };
 }
 
 /// The module that the terminals are: the node that stands for it, or the number of the first terminal that can follow in no module or nests too deep.
@@ -430,7 +432,7 @@ pub fn read_module(s: &[Symbol], nodes: &mut [Node]) -> Result<usize, Fault>
         depth: MAX_DEPTH,
         used: 0,
     };
-    let m = module_items(from, nodes)?;
+    let m = read_list(ItemList, from, nodes)?;
     if m.next < s.len() {
         return Err(Fault::Syntax(m.next));
     }

@@ -7,21 +7,21 @@ use Rattle.grammar.proofs.Tests.{differs, agrees}
 use Rattle.modules.proofs.storing.Goals as goal
 
 pub returns-then-ne : goal.returns-then-ne
-returns-then-ne c =
+returns-then-ne g c =
     let u = c.if-ne.ensures in
-    no_brick_name c.args.how c.args.from.depth c.args.from.symbols.now c.args.from.next c.args.from.used (λ e. differs _ _ u (c.peek.ensures.is ∙ e))
+    no_brick_name g.D.Declares.sort c.args.from.depth c.args.from.symbols.now c.args.from.next c.args.from.used (λ e. differs _ _ u (c.peek.ensures.is ∙ e))
 
 pub returns-then-ne-2 : goal.returns-then-ne-2
-returns-then-ne-2 c =
+returns-then-ne-2 g c =
     let u = c.if-ne.ensures in
     let ue = agrees _ _ u in
     let uh = c.peek.ensures.there (far NAME _ refl ue) in
     let uq = sym c.peek.ensures.is ∙ ue in
     let w = c.if-ne-2.ensures in
-    no_brick_semi c.args.how c.args.from.depth c.args.from.symbols.now c.args.from.next c.args.from.used uh uq (λ e. differs _ _ w (c.peek-2.ensures.is ∙ e))
+    no_brick_semi g.D.Declares.sort c.args.from.depth c.args.from.symbols.now c.args.from.next c.args.from.used uh uq (λ e. differs _ _ w (c.peek-2.ensures.is ∙ e))
 
 pub returns-in_err-d : goal.returns-in_err-d
-returns-in_err-d c =
+returns-in_err-d g c =
     let p = err_from_is_err_and c.from_residual.result c.from_residual.ensures.1 in
     let u = c.if-ne.ensures in
     let ue = agrees _ _ u in
@@ -31,10 +31,10 @@ returns-in_err-d c =
     let we = agrees _ _ w in
     let wh = c.peek-2.ensures.there (far SEMI _ refl we) in
     let wq = sym c.peek-2.ensures.is ∙ we in
-    rw (p.1, p.2) (decs_refused c.args.how c.args.from.depth c.args.from.symbols.now c.args.from.next c.args.from.used uh uq wh wq _ c.in_err-d.ensures)
+    rw (p.1, p.2) (decs_refused g.D.Declares.sort c.args.from.depth c.args.from.symbols.now c.args.from.next c.args.from.used uh uq wh wq _ c.in_err-d.ensures)
 
 pub returns-then-ne-3 : goal.returns-then-ne-3
-returns-then-ne-3 c =
+returns-then-ne-3 g c =
     let u = c.if-ne.ensures in
     let ue = agrees _ _ u in
     let uh = c.peek.ensures.there (far NAME _ refl ue) in
@@ -44,10 +44,10 @@ returns-then-ne-3 c =
     let wh = c.peek-2.ensures.there (far SEMI _ refl we) in
     let wq = sym c.peek-2.ensures.is ∙ we in
     let x = c.if-ne-3.ensures in
-    no_enddata c.args.how c.args.from.depth c.args.from.symbols.now c.args.from.next c.args.from.used uh uq wh wq _ _ c.in_ok-d.d c.in_ok-d.ensures (λ e. differs _ _ x (c.peek-3.ensures.is ∙ e))
+    no_enddata g.D.Declares.sort c.args.from.depth c.args.from.symbols.now c.args.from.next c.args.from.used uh uq wh wq _ _ c.in_ok-d.d c.in_ok-d.ensures (λ e. differs _ _ x (c.peek-3.ensures.is ∙ e))
 
 pub returns : goal.returns
-returns c =
+returns g c =
     let u = c.if-ne.ensures in
     let ue = agrees _ _ u in
     let uh = c.peek.ensures.there (far NAME _ refl ue) in
@@ -60,4 +60,4 @@ returns c =
     let xe = agrees _ _ x in
     let xh = c.peek-3.ensures.there (far ENDDATA _ refl xe) in
     let xq = sym c.peek-3.ensures.is ∙ xe in
-    made_storing c.args.how c.args.from.depth c.args.from.symbols.now c.args.from.next c.args.from.used uh uq wh wq _ _ c.in_ok-d.d c.in_ok-d.ensures xh xq
+    made_storing g.D.Declares.sort c.args.from.depth c.args.from.symbols.now c.args.from.next c.args.from.used uh uq wh wq _ _ c.in_ok-d.d c.in_ok-d.ensures xh xq
