@@ -8,9 +8,9 @@ use Rattle.grammar.specs.Machine.{Goal, Forest, Move, refuse, each, declareds, u
 use Rattle.grammar.proofs.Expressions.{on_not}
 use Rattle.grammar.proofs.Steps.{items_here, step_at, refuse_at, refuses, like_at, skip_at, followed_at, expr_at, mapped_on}
 use Rattle.nodes.proofs.Build.{grown, not_on, far}
-use Rattle.nodes.proofs.Keep.{keep_value, keep_expr, keep_name, keep_many, agree_set, at_set, agree_trans}
+use Rattle.nodes.proofs.Keep.{keep_name, keep_many, agree_set, at_set, agree_trans}
 use Rattle.nodes.specs.Made.{at, Made, Way, Refused, Shares, of_shared, NamesWay}
-use Rattle.nodes.specs.Nodes.{Agree, Reading, IsMany, IsName, IsInit, IsValue, IsExpr}
+use Rattle.nodes.specs.Nodes.{Agree, IsMany, IsName, IsInit}
 use Rattle.declarations.specs.Declaring.{goal_of}
 use Rattle.nodes.specs.Lists.{IsInitial}
 use Rattle.nodes.proofs.Repeat.{keep_initial}

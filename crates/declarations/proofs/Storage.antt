@@ -1,16 +1,15 @@
 -- What a data brick declares, step by step. Assumes nothing.
 use Rattle.std.proofs.Common.{◌≡◌, ℕ, ◌+◌, ◌-◌, ◌<◌, ◌≤◌, true, List, [], ◌∷◌, length, get_or, drop, set, refl, ap, ◌∙◌, arith}
-use Rattle.grammar.specs.Symbols.{among, STOP, NAME, INTEGER, INT, BYTE, REF, ARRAY, LEFT, RIGHT, SEMI}
+use Rattle.grammar.specs.Symbols.{among, STOP, NAME, INTEGER, INT, BYTE, REF, ARRAY, LEFT, RIGHT}
 use Rattle.grammar.specs.declared.Symbol.{Symbol}
-use Rattle.grammar.specs.Trees.{Token, token, key, Many, of_many, Mode, of_mode, of_amode, Dec, nothing, variables, arrays, structures, of_dec}
+use Rattle.grammar.specs.Trees.{Token, token, key, Mode, of_mode, of_amode, Dec, nothing, variables, arrays, structures, of_dec}
 use Rattle.grammar.specs.Sentences.{items}
-use Rattle.grammar.specs.Machine.{Goal, Move, skip, orelse, then, never, tok, all, each, rest, declareds, decs, Sort, unset, set as set_sort, stored, a_mode, an_amode, at_dec, fewer}
+use Rattle.grammar.specs.Machine.{Goal, Move, skip, orelse, then, never, tok, all, each, declareds, decs, Sort, a_mode, an_amode, at_dec, fewer}
 use Rattle.grammar.proofs.Steps.{items_here, step_at, sink_at, skip_at}
 use Rattle.nodes.proofs.Build.{grown, not_on, fewer_is, more_is, token_refused}
-use Rattle.nodes.proofs.Keep.{keep_mode, keep_amode, keep_many, keep_name, keep_init, keep_value, agree_trans}
-use Rattle.nodes.proofs.Repeat.{decs_begin, starts, refused, goes, ends}
+use Rattle.nodes.proofs.Keep.{keep_mode, keep_amode, agree_trans}
 use Rattle.nodes.specs.Made.{at, Made, Way, Refused}
-use Rattle.nodes.specs.Nodes.{Agree, IsMany, IsName, IsInit, IsValue, IsDec}
+use Rattle.nodes.specs.Nodes.{IsDec}
 use Rattle.nodes.specs.declared.Node.{Node}
 use Rattle.nodes.specs.declared.Node.TheVariants as node
 use Rattle.nodes.specs.declared.Parsed.{Parsed}

@@ -10,7 +10,7 @@ use Rattle.grammar.proofs.Steps.{items_here, step_at, skip_at, followed_at}
 use Rattle.nodes.proofs.Build.{grown, not_on}
 use Rattle.nodes.proofs.Keep.{agree_trans, keep_expr, keep_exprs, keep_many, keep_comparison, keep_subcondition, keep_condition, keep_statement, keep_sequence, keep_mode, keep_entry, keep_values, keep_name, keep_init, keep_value, keep_dec, keep_moditem}
 use Rattle.nodes.specs.Made.{at, Made, Way, Refused}
-use Rattle.nodes.specs.Nodes.{At, Agree, Reading, IsExpr, IsExprs, IsMany, IsComparison, IsSubcondition, IsCondition, IsStatement, IsSequence, IsMode, IsEntry, IsValues, IsName, IsInit, IsValue, IsDec, IsModitem, IsModule}
+use Rattle.nodes.specs.Nodes.{At, Agree, IsMany, IsMode, IsDec, IsModitem}
 use Rattle.nodes.specs.Lists.{IsInitial, IsDeclared, IsSingle, IsWhole, Begins}
 use Rattle.nodes.specs.declared.Node.{Node}
 use Rattle.nodes.specs.declared.Node.TheVariants.{Also}

@@ -11,7 +11,9 @@ use grammar::Symbol;
 pub trait Entries: Copy {
     // which list it is, how many nodes an entry may need beyond two to an item, and the goal that the list meets
     ghost kind: { Self → Repetition };
+
     ghost slack: { ℕ };
+
     ghost goal: { Self → Goal };
 
     /// What stands between two entries.
@@ -25,6 +27,7 @@ pub trait Entries: Copy {
         ensures { ReadsTo slack (Single (kind self)) (IsSingle (kind self)) (of_single (kind self)) (each (kind self) ∷ []) from.entry nodes.old nodes.new result };
 
     ghost small: { slack ≤ 1 };
+
     ghost begins: { (a : Self) → Begins (kind a) (goal a) };
 }
 
