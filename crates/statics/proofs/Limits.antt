@@ -1,8 +1,10 @@
 -- The stages with one number, and their order. Assumes nothing.
 use Rattle.std.proofs.Common.{◌≡◌, ℕ, ◌+◌, ◌<◌, ◌≤◌, Bool, cond, ◌⊎◌, List, [], ◌∷◌, ◌++◌, Some, None, Ok, Err, Option, Result, sym, refl, ap, ◌∙◌, inl, inr, arith}
 use Rattle.statics.specs.declared.Refusal.{Refusal}
+use Rattle.statics.specs.declared.Refusal.TheVariants.{DeclaredTwice, WrongName, Misfit, NoValue, TooManyPlaces, TooManyLocals}
+use Rattle.statics.specs.Refusals.{place_of, shift}
 use Rattle.grammar.specs.Trees.{Module}
-use Rattle.statics.specs.Laws.{Wrongs, Clean, Any, Earliest, Verdict}
+use Rattle.statics.specs.Laws.{Wrongs, At, Wherever, Clean, Any, Earliest, Verdict}
 use Rattle.statics.specs.Scopes.{Text}
 use Rattle.statics.specs.Expressions.{nth}
 use Rattle.statics.specs.Written.{gather}
@@ -64,25 +66,25 @@ least_is (a ∷ l) = go (least_is l)
             below : (a < b → ⊥) → b ≤ a
             below f = grind arith
 
-abbrev Only : ℕ → (ℕ → Type 0) → Wrongs
-Only k P n p = (n ≡ k) × P p
-
 at_or_after : (a p : ℕ) → a ≤ p → (a < p) ⊎ (a ≡ p)
 at_or_after a p h = grind arith
 
--- one number, at the least of a list
-pub least_verdict : (k : ℕ) (P : ℕ → Type 0) (l : List ℕ) → ((p : ℕ) → P p → Among p l) → ((p : ℕ) → Among p l → P p) → Verdict (Clean (Only k P)) (Only k P) (report k (least l))
-least_verdict k P l to back = go (least_is l)
+-- one kind of refusal, at the least of a list
+pub least_verdict :
+    (k : ℕ → Refusal) → ((p : ℕ) → place_of (k p) ≡ p) → (P : ℕ → Type 0) (l : List ℕ)
+    → ((p : ℕ) → P p → Among p l)
+    → ((p : ℕ) → Among p l → P p)
+    → Verdict (Clean (Wherever k P)) (Wherever k P) (report k (least l))
+least_verdict k place P l to back = go (least_is l)
   where
-    go : {o : Option ℕ} → Least l o → Verdict (Clean (Only k P)) (Only k P) (report k o)
-    go (nowhere n) = let clean : Clean (Only k P) tt = λ m p w. n p (to p w.1) in (clean, clean)
-    go (there {a} h low) =
-        ((refl, back a h), λ m p w. elim (at_or_after a p (low p (to p w.1))) [ inl x ↦ inl x | inr x ↦ inr (x, sym w.0) ])
+    go : {o : Option ℕ} → Least l o → Verdict (Clean (Wherever k P)) (Wherever k P) (report k o)
+    go (nowhere n) = let clean : Clean (Wherever k P) tt = λ f w. n w.0 (to w.0 w.1) in (clean, clean)
+    go (there {a} h low) = ((a, back a h, refl), λ f w. elim (at_or_after a w.0 (low w.0 (to w.0 w.1))) [ inl x ↦ inl (rw (w.2, place w.0, place a) x) | inr x ↦ inr (rw x w.2) ])
 
--- one number, at one place
-pub one_verdict : (k : ℕ) (P : ℕ → Type 0) {o : Option ℕ} → Tells P o → Verdict (Clean (Only k P)) (Only k P) (report k o)
-one_verdict k P (none t) = let clean : Clean (Only k P) tt = λ m p w. t p w.1 in (clean, clean)
-one_verdict k P (found t one) = ((refl, t), λ m p w. inr (sym (one p w.1), sym w.0))
+-- one kind of refusal, at one place
+pub one_verdict : (k : ℕ → Refusal) (P : ℕ → Type 0) {o : Option ℕ} → Tells P o → Verdict (Clean (Wherever k P)) (Wherever k P) (report k o)
+one_verdict k P (none t) = let clean : Clean (Wherever k P) tt = λ f w. t w.0 w.1 in (clean, clean)
+one_verdict k P (found {a} t one) = ((a, t, refl), λ f w. inr (rw (← (one w.0 w.1)) w.2))
 
 -- Declared twice.
 abbrev Alike : Text → ℕ → List ℕ → ℕ → Type 0
@@ -117,7 +119,7 @@ doubles_of x [] p h = h
 doubles_of x (n ∷ l) p h = elim (any_parts _ (alike_in x n l) (doubles x l) h) [ inl y ↦ inl (alike_of x n l p y) | inr y ↦ inr (doubles_of x l p y) ]
 
 pub twice_right : (x : Text) (m : Module) → Verdict (Clean (twice_wrongs x m)) (twice_wrongs x m) (judge_twice x m)
-twice_right x m = least_verdict 9 _ _ (to_flat (Twice x) (doubles x) (doubles_to x) (scopes x m)) (of_flat (Twice x) (doubles x) (doubles_of x) (scopes x m))
+twice_right x m = least_verdict DeclaredTwice (λ p. refl) _ _ (to_flat (Twice x) (doubles x) (doubles_to x) (scopes x m)) (of_flat (Twice x) (doubles x) (doubles_of x) (scopes x m))
 
 -- Places of data and strings.
 passing_tells : (limit used : ℕ) (cs : List Charge) → Tells (Passes limit used cs) (passing limit used cs)
@@ -133,7 +135,7 @@ passing_tells limit used (c ∷ cs) = go (ltb_told limit (used + c.amount)) (pas
         below f = grind arith
 
 pub space_right : (x : Text) (m : Module) → Verdict (Clean (space_wrongs x m)) (space_wrongs x m) (judge_space x m)
-space_right x m = one_verdict 13 _ (passing_tells 4096 0 (charges x m))
+space_right x m = one_verdict TooManyPlaces _ (passing_tells 4096 0 (charges x m))
 
 -- Locals.
 option_to : (o : Option ℕ) (p : ℕ) → o ≡ Some p → Among p (option_list o)
@@ -147,7 +149,7 @@ option_of (Some q) p (inr x) = absurd x
 
 pub locals_right : (x : Text) (m : Module) → Verdict (Clean (locals_wrongs x m)) (locals_wrongs x m) (judge_locals x m)
 locals_right x m =
-    least_verdict 14 _ _ (to_flat Beyond beyond (λ a p e. option_to (nth a.names a.most) p e) (gather (moditem_allowances x) m))
+    least_verdict TooManyLocals (λ p. refl) _ _ (to_flat Beyond beyond (λ a p e. option_to (nth a.names a.most) p e) (gather (moditem_allowances x) m))
     (of_flat Beyond beyond (λ a p h. option_of (nth a.names a.most) p h) (gather (moditem_allowances x) m))
 
 -- Stages.
@@ -166,33 +168,38 @@ static_right_lem x m lo hi i =
     let second = stage (module_wrongs x m) (space_wrongs x m ∷ locals_wrongs x m ∷ []) (judge_module x m) (then (judge_space x m) (λ c. judge_locals x m)) (verdict (module_right x m lo hi i).decided) third in
     stage (twice_wrongs x m) (module_wrongs x m ∷ space_wrongs x m ∷ locals_wrongs x m ∷ []) (judge_twice x m) (then (judge_module x m) (λ b. then (judge_space x m) (λ c. judge_locals x m))) (twice_right x m) second
 
-refusal_one : (f g : Refusal) → f.number ≡ g.number → f.place ≡ g.place → f ≡ g
-refusal_one f g a b = λ i. record { number = a i; place = b i }
-
 earliest_one : (W : Wrongs) (f g : Refusal) → Earliest W f → Earliest W g → f ≡ g
-earliest_one W f g a b = go (a.1 _ _ b.0) (b.1 _ _ a.0)
+earliest_one W f g a b = go (a.1 g b.0) (b.1 f a.0)
   where
-    go : (f.place < g.place) ⊎ ((f.place ≡ g.place) × (f.number ≡ g.number)) → (g.place < f.place) ⊎ ((g.place ≡ f.place) × (g.number ≡ f.number)) → f ≡ g
-    go (inr e) y = refusal_one f g e.1 e.0
+    go : (place_of f < place_of g) ⊎ At f g → (place_of g < place_of f) ⊎ At g f → f ≡ g
+    go (inr e) y = sym e
+    go (inl h) (inr e) = e
     go (inl h) (inl k) = let z : ⊥ = omega arith in absurd z
-    go (inl h) (inr e) = let z : ⊥ = omega (arith, e.0) in absurd z
 
 pub staged_one : (ws : List Wrongs) (r s : Result (Unit {0}) Refusal) → Staged ws r → Staged ws s → s ≡ r
 staged_one [] r s a b = b ∙ sym a
 staged_one (W ∷ ws) r s (inl a) (inl b) = b.2 ∙ (ap Err (earliest_one W b.0 a.0 b.1 a.1) ∙ sym a.2)
-staged_one (W ∷ ws) r s (inl a) (inr b) = absurd (b.0 _ _ a.1.0)
-staged_one (W ∷ ws) r s (inr a) (inl b) = absurd (a.0 _ _ b.1.0)
+staged_one (W ∷ ws) r s (inl a) (inr b) = absurd (b.0 _ a.1.0)
+staged_one (W ∷ ws) r s (inr a) (inl b) = absurd (a.0 _ b.1.0)
 staged_one (W ∷ ws) r s (inr a) (inr b) = staged_one ws r s a.1 b.1
 
 -- Other places.
-moved_earliest : (g : ℕ → ℕ) → ((a b : ℕ) → a < b → g a < g b) → (W : Wrongs) (f : Refusal) → Earliest W f → Earliest (Moved g W) (record { number = f.number; place = g f.place })
-moved_earliest g inc W f e = ((f.place, e.0, refl), λ n q m. go n q m (e.1 n m.0 m.1))
+shifted_place : (g : ℕ → ℕ) (f : Refusal) → place_of (shift g f) ≡ g (place_of f)
+shifted_place g (DeclaredTwice p) = refl
+shifted_place g (WrongName p) = refl
+shifted_place g (Misfit p) = refl
+shifted_place g (NoValue p) = refl
+shifted_place g (TooManyPlaces p) = refl
+shifted_place g (TooManyLocals p) = refl
+
+moved_earliest : (g : ℕ → ℕ) → ((a b : ℕ) → a < b → g a < g b) → (W : Wrongs) (f : Refusal) → Earliest W f → Earliest (Moved g W) (shift g f)
+moved_earliest g inc W f e = ((f, e.0, refl), λ h m. go h m (e.1 m.0 m.1))
   where
-    go : (n q : ℕ) (m : Moved g W n q) → (f.place < m.0) ⊎ ((f.place ≡ m.0) × (f.number ≡ n)) → (g f.place < q) ⊎ ((g f.place ≡ q) × (f.number ≡ n))
-    go n q m (inl h) = inl (rw m.2 (inc f.place m.0 h))
-    go n q m (inr x) = inr (ap g x.0 ∙ sym m.2, x.1)
+    go : (h : Refusal) (m : Moved g W h) → (place_of f < place_of m.0) ⊎ At f m.0 → (place_of (shift g f) < place_of h) ⊎ At (shift g f) h
+    go h m (inl l) = inl (rw (m.2, shifted_place g f, shifted_place g m.0) (inc (place_of f) (place_of m.0) l))
+    go h m (inr x) = inr (rw x at m.2)
 
 pub moved_staged : (g : ℕ → ℕ) → ((a b : ℕ) → a < b → g a < g b) → (ws : List Wrongs) (r : Result (Unit {0}) Refusal) → Staged ws r → Staged (all_moved g ws) (moved g r)
 moved_staged g inc [] r s = ap (moved g) s
-moved_staged g inc (W ∷ ws) r (inl x) = inl (record { number = x.0.number; place = g x.0.place }, moved_earliest g inc W x.0 x.1, ap (moved g) x.2)
-moved_staged g inc (W ∷ ws) r (inr x) = inr ((λ n q m. x.0 n m.0 m.1), moved_staged g inc ws r x.1)
+moved_staged g inc (W ∷ ws) r (inl x) = inl (shift g x.0, moved_earliest g inc W x.0 x.1, ap (moved g) x.2)
+moved_staged g inc (W ∷ ws) r (inr x) = inr ((λ f m. x.0 m.0 m.1), moved_staged g inc ws r x.1)

@@ -1,6 +1,8 @@
 -- Initial values and module items are judged right. Assumes nothing.
 use Rattle.std.proofs.Common.{◌≡◌, ℕ, ◌+◌, ◌<◌, ◌≤◌, Bool, true, false, ◌&&◌, List, [], ◌∷◌, length, Some, None, codes, Option, Result, refl, ap, arith}
 use Rattle.statics.specs.declared.Refusal.{Refusal}
+use Rattle.statics.specs.Refusals.{place_of}
+use Rattle.statics.specs.declared.Refusal.TheVariants.{WrongName, Misfit, NoValue}
 use Rattle.grammar.specs.Trees.{Value, constant, signed, minus_signed, identifier, string, empty_list, list, Values, only, and, Entry, once, repeated, Many, one, more, Opt, Fields, also, Init, given, Dec, variables, arrays, structures, Body, Brick, store, procedure, Moditem, blank, external_procs, external_store, own, entry, Module}
 use Rattle.grammar.specs.Trees as tree
 use Rattle.statics.specs.Modes.{Word, int, byte, Mode, plain, ref, ref_record, ref_array, Element, simple, records, INT, BYTE, Thing}
@@ -15,18 +17,18 @@ use Rattle.statics.specs.Order.{Span, InMany, InMode, InName, InInit, InValue, I
 use Rattle.statics.specs.JudgeExpressions.{then, must, keeps, judge_each}
 use Rattle.statics.specs.JudgeStatements.{judge_written}
 use Rattle.statics.specs.JudgeModules.{holds, takes_integer, is_mode, takes_name, takes_string, takes_list, repeats, judge_value, judge_values, judge_entry, is_plain, all_plain, element_starts, valueless, judge_opt, judge_fields, no_modes, one_byte, no_mode, admitted, judge_data_item, judge_data_dec, judge_brick, judge_moditem, judge_module}
-use Rattle.statics.proofs.Decide.{Told, yes, no, lacking, wider, chain, likewise, next, nothing}
+use Rattle.statics.proofs.Decide.{Told, yes, no, lacking, cleaned, wider, chain, next, nothing}
 use Rattle.statics.proofs.Fit.{told_like, told_and, told_or, eqb_told, ltb_told, same_word_told, same_mode_told, same_element_told}
 use Rattle.statics.proofs.Names.{look_judged, keeps_tells}
 use Rattle.statics.proofs.Expressions.{Checks, unit_tells, each_right, many_le}
 use Rattle.statics.proofs.Statements.{asked, refusing, mode_le, element_le, name_le, init_le, body_le, written_right, element_right, record_name_right, body_right}
 
--- a test, and the number k at q where it fails
-tested : {P : Type 0} {b : Bool} (lo hi k q : ℕ) → Span lo hi q → Told P b → Checks lo hi (Lacks (λ (u : Unit {0}). P) k q) (must k q (holds b))
-tested lo hi k q i t = asked lo hi k q _ _ i (unit_tells t)
+-- a test, and f where it fails
+tested : {P : Type 0} {b : Bool} (lo hi : ℕ) (f : Refusal) → Span lo hi (place_of f) → Told P b → Checks lo hi (Lacks (λ (u : Unit {0}). P) f) (must f (holds b))
+tested lo hi f i t = asked lo hi f _ _ i (unit_tells t)
 
-then_tested : {P : Type 0} {b : Bool} {W : Wrongs} {r : Result (Unit {0}) Refusal} (lo hi k q : ℕ) → Span lo hi q → Checks lo hi W r → Told P b → Checks lo hi (ThenAsk W (λ u. P) k q) (then r (λ u. must k q (holds b)))
-then_tested {P} lo hi k q i c t = likewise _ (λ n p w. w) (λ n p w. w) (chain (λ u v. P) _ _ c (λ u h. lacking lo hi k q i (unit_tells t)))
+then_tested : {P : Type 0} {b : Bool} {W : Wrongs} {r : Result (Unit {0}) Refusal} (lo hi : ℕ) (f : Refusal) → Span lo hi (place_of f) → Checks lo hi W r → Told P b → Checks lo hi (ThenAsk W (λ u. P) f) (then r (λ u. must f (holds b)))
+then_tested {P} lo hi f i c t = cleaned (chain (λ u v. P) _ _ c (λ u h. lacking lo hi f i (unit_tells t)))
 
 integer_told : (w : Want) (s : Bool) (v : ℕ) → Told (TakesInteger w s v tt) (takes_integer w s v)
 integer_told free s v = yes tt
@@ -93,16 +95,16 @@ value_le v lo hi i = let f = value_in v lo hi i in omega arith
 
 mutual
   pub value_right : (v : Value) (Γ : Env) (w : Want) (lo hi : ℕ) → InValue lo v hi → Checks lo hi (initial Γ w v) (judge_value Γ w v)
-  value_right (constant k) Γ w lo hi i = tested lo hi 11 k i (integer_told w false (Γ.text.value k))
-  value_right (signed s k) Γ w lo hi i = tested lo hi 11 s i (integer_told w true (Γ.text.value k))
-  value_right (minus_signed s k) Γ w lo hi i = tested lo hi 11 s i (integer_told w true (Γ.text.value k))
+  value_right (constant k) Γ w lo hi i = tested lo hi (Misfit k) i (integer_told w false (Γ.text.value k))
+  value_right (signed s k) Γ w lo hi i = tested lo hi (Misfit s) i (integer_told w true (Γ.text.value k))
+  value_right (minus_signed s k) Γ w lo hi i = tested lo hi (Misfit s) i (integer_told w true (Γ.text.value k))
   value_right (identifier n) Γ w lo hi i =
-      likewise _ (λ k p x. x) (λ k p x. x) (chain (λ t u. TakesName w t u) _ _ (look_judged Γ n Keeps keeps lo hi keeps_tells i) (λ t h. lacking lo hi 11 n i (unit_tells (name_told w t))))
-  value_right (string k) Γ w lo hi i = tested lo hi 11 k i (string_told w (Γ.text.size k))
-  value_right (empty_list k) Γ w lo hi i = tested lo hi 11 k i (list_told Γ w 0 0)
+      cleaned (chain (λ t u. TakesName w t u) _ _ (look_judged Γ n Keeps keeps lo hi keeps_tells i) (λ t h. lacking lo hi (Misfit n) i (unit_tells (name_told w t))))
+  value_right (string k) Γ w lo hi i = tested lo hi (Misfit k) i (string_told w (Γ.text.size k))
+  value_right (empty_list k) Γ w lo hi i = tested lo hi (Misfit k) i (list_told Γ w 0 0)
   value_right (list k vs) Γ w lo hi i =
       let s = value_in (list k vs) lo hi i in
-      then_tested lo hi 11 k s (wider lo hi (omega (arith, i.0)) (omega arith) (values_right vs Γ w (k + 1) hi i.1)) (list_told Γ w (how_many vs) (total Γ.text.value vs))
+      then_tested lo hi (Misfit k) s (wider lo hi (omega (arith, i.0)) (omega arith) (values_right vs Γ w (k + 1) hi i.1)) (list_told Γ w (how_many vs) (total Γ.text.value vs))
 
   pub values_right : (vs : Values) (Γ : Env) (w : Want) (lo hi : ℕ) → InValues lo vs hi → Checks lo hi (listed Γ w vs) (judge_values Γ w vs)
   values_right (only e) Γ w lo hi i = entry_right e Γ w 0 lo hi i
@@ -113,7 +115,7 @@ mutual
 
   pub entry_right : (e : Entry) (Γ : Env) (w : Want) (k lo hi : ℕ) → InEntry lo e hi → Checks lo hi (an_entry Γ w k e) (judge_entry Γ w k e)
   entry_right (once v) Γ w k lo hi i = value_right v Γ (inner Γ w k) lo hi i
-  entry_right (repeated v j n) Γ w k lo hi i = then_tested lo hi 11 (front_value v) (value_in v lo hi i) (value_right v Γ (inner Γ w k) lo hi i) (repeats_told w)
+  entry_right (repeated v j n) Γ w k lo hi i = then_tested lo hi (Misfit (front_value v)) (value_in v lo hi i) (value_right v Γ (inner Γ w k) lo hi i) (repeats_told w)
 
 -- Without a value.
 starts_told : (m : Mode) → Told (Starts m tt) (is_plain m)
@@ -137,7 +139,7 @@ valueless_told Γ (several n e) = told_or (eqb_told n 0) (element_told Γ e)
 valueless_told Γ (recorded r) = all_told (record_modes Γ.parts r)
 
 data_item_right : (Γ : Env) (w : Want) (x : Init Value) (lo hi : ℕ) → InInit InValue lo x hi → Checks lo hi (data_item Γ w x) (judge_data_item Γ w x)
-data_item_right Γ w (tree.plain n) lo hi i = tested lo hi 12 n i (valueless_told Γ w)
+data_item_right Γ w (tree.plain n) lo hi i = tested lo hi (NoValue n) i (valueless_told Γ w)
 data_item_right Γ w (given ns v) lo hi i =
     let f = many_le InName name_le ns lo i.0 i.1 in
     wider lo hi (omega arith) (omega arith) (value_right v Γ w i.0 hi i.2)
@@ -263,8 +265,8 @@ moditem_right Γ (external_procs k ms m ns) lo hi i =
     let h = many_le InName name_le ns j.0 hi j.2 in
     next (opt_le (InMany InMode) (many_le InMode mode_le) ms lo i.0 i.1) (omega arith) (modes_right Γ ms lo i.0 i.1)
     (next g h (maybe_right Γ m i.0 j.0 j.1)
-    (each_right _ _ InName name_le (λ n lo hi q. tested lo hi 10 n q (admitted_told (Γ.text.word n) (record { takes = modes Γ.text ms; gives = maybe_mode Γ.text m }))) ns j.0 hi j.2))
-moditem_right Γ (external_store n ds) lo hi i = likewise _ (λ k p w. w) (λ k p w. w) (refusing lo hi 10 n i)
+    (each_right _ _ InName name_le (λ n lo hi q. tested lo hi (WrongName n) q (admitted_told (Γ.text.word n) (record { takes = modes Γ.text ms; gives = maybe_mode Γ.text m }))) ns j.0 hi j.2))
+moditem_right Γ (external_store n ds) lo hi i = cleaned (refusing lo hi (WrongName n) i)
 moditem_right Γ (tree.record_mode n k fs) lo hi i = wider lo hi (omega (arith, i.0)) (omega arith) (fields_right (in_record Γ fs) fs (n + 1) hi i.1)
 moditem_right Γ (own b) lo hi i = brick_right Γ b lo hi i
 moditem_right Γ (entry b) lo hi i = brick_right Γ b lo hi i

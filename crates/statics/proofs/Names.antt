@@ -1,5 +1,6 @@
 -- What a name means. Assumes nothing.
 use Rattle.std.proofs.Common.{◌≡◌, ℕ, zero, suc, ◌<◌, Bool, true, false, cond, ◌⊎◌, length, get_or, Some, Option, refl, ap, subst, inl, inr, arith}
+use Rattle.statics.specs.declared.Refusal.TheVariants.{WrongName}
 use Rattle.statics.specs.Modes.{Word, Thing, place}
 use Rattle.statics.specs.Laws.{Lacks}
 use Rattle.statics.specs.Scopes.{Env, Class, record_mode, brick, stored, local, routine, part, Signature, Head, thing, signature, nobody, class_at, component_at, LastOf, Means, Called, Stands, Keeps, Runs, Heads, Shapes, Belongs, Selects}
@@ -43,8 +44,8 @@ called_tells Γ n =
     (λ i. tells_if i (ltb_told i Γ.ready)))
 
 -- a name picked by its class
-pub look_judged : {A : Type 0} (Γ : Env) (n : ℕ) (P : Class → A → Type 0) (pick : Class → Option A) (lo hi : ℕ) → ((c : Class) → Tells (P c) (pick c)) → Span lo hi n → Judged lo hi (Called Γ n P) (Lacks (Called Γ n P) 10 n) (look Γ n pick)
-look_judged Γ n P pick lo hi t s = lacking lo hi 10 n s (tells_bind (λ i. P (class_at Γ i)) _ (called_tells Γ n) (λ i. t (class_at Γ i)))
+pub look_judged : {A : Type 0} (Γ : Env) (n : ℕ) (P : Class → A → Type 0) (pick : Class → Option A) (lo hi : ℕ) → ((c : Class) → Tells (P c) (pick c)) → Span lo hi n → Judged lo hi (Called Γ n P) (Lacks (Called Γ n P) (WrongName n)) (look Γ n pick)
+look_judged Γ n P pick lo hi t s = lacking lo hi (WrongName n) s (tells_bind (λ i. P (class_at Γ i)) _ (called_tells Γ n) (λ i. t (class_at Γ i)))
 
 pub stands_tells : (c : Class) → Tells (Stands c) (stands c)
 stands_tells record_mode = none (λ t x. x)

@@ -1,6 +1,8 @@
 -- Blocks and statements are judged right. Assumes nothing.
 use Rattle.std.proofs.Common.{◌≡◌, ℕ, ◌+◌, ◌≤◌, Bool, ◌⊎◌, length, Some, None, Option, Result, sym, refl, subst, inl, inr, arith}
 use Rattle.statics.specs.declared.Refusal.{Refusal}
+use Rattle.statics.specs.Refusals.{place_of}
+use Rattle.statics.specs.declared.Refusal.TheVariants.{Misfit, NoValue}
 use Rattle.grammar.specs.Trees.{Expr, Variable, Exprs, Many, one, more, Init, given, Local, Locals, no_locals, locals, Destination, val, Body, body, Sequence, single, sequel, Statement, dummy, block, assign, invoke, invoke_on, branch, branch_else, repeat, loop, return, return_with, Arms, when, elsewhen}
 use Rattle.grammar.specs.Trees as tree
 use Rattle.statics.specs.Modes.{Mode, plain, ref, ref_record, ref_array, INT, mode}
@@ -13,14 +15,14 @@ use Rattle.statics.specs.Statements.{into, Starts, local_item, local_items, loca
 use Rattle.statics.specs.Order.{Span, In, InVariable, InMany, InCondition, InMode, InElement, InName, InInit, InLocal, InLocals, InDestination, InBody, InSequence, InStatement, InArms}
 use Rattle.statics.specs.JudgeExpressions.{then, must, provided, bring, done, shapes, judge, judge_variable, judge_condition}
 use Rattle.statics.specs.JudgeStatements.{judge_record_name, judge_written, judge_element, judge_into, starts, judge_local_item, judge_local_items, judge_local_dec, judge_local_decs, join, judge_target, judge_targets, silent, judge_body, judge_sequence, judge_statement, judge_arms}
-use Rattle.statics.proofs.Decide.{Told, yes, no, Tells, found, none, Judged, lacking, like, wider, chain, alone, two, turn, plainly, likewise, next, nothing}
+use Rattle.statics.proofs.Decide.{Told, yes, no, Tells, found, none, Also, Judged, lacking, like, cleaned, wider, chain, alone, two, turn, plainly, next, nothing}
 use Rattle.statics.proofs.Fit.{same_mode_told}
 use Rattle.statics.proofs.Names.{look_judged, shapes_tells}
 use Rattle.statics.proofs.Expressions.{Right, Checks, brought, front_in, spot_in, front_variable_in, exprs_le, many_le, condition_le, expr_right, variable_right, args_right, args_inner, called_right, condition_right}
 
 -- a check that asks for something of the one element
-pub asked : (lo hi k q : ℕ) (K : Unit {0} → Type 0) (o : Option (Unit {0})) → Span lo hi q → Tells K o → Checks lo hi (Lacks K k q) (must k q o)
-asked lo hi k q K o i t = likewise _ (λ n p w. w) (λ n p w. w) (lacking lo hi k q i t)
+pub asked : (lo hi : ℕ) (f : Refusal) (K : Unit {0} → Type 0) (o : Option (Unit {0})) → Span lo hi (place_of f) → Tells K o → Checks lo hi (Lacks K f) (must f o)
+asked lo hi f K o i t = cleaned (lacking lo hi f i t)
 
 pub brought_check : (Γ : Env) (m : Mode) (e : Expr 5) (lo hi : ℕ) → In lo e hi → Checks lo hi (Off (expr Γ e) (spot e) (mode m)) (then (bring (mode m) (spot e) (judge Γ e)) done)
 brought_check Γ m e lo hi i = plainly (brought lo hi (spot e) (expr Γ e) (mode m) (judge Γ e) (spot_in e lo hi i) (expr_right Γ e lo hi i))
@@ -41,7 +43,7 @@ mutual
   element_le (tree.records n) lo hi i = omega arith
 
 pub record_name_right : (Γ : Env) (n lo hi : ℕ) → Span lo hi n → Checks lo hi (record_name Γ n) (judge_record_name Γ n)
-record_name_right Γ n lo hi i = likewise _ (λ k p w. w) (λ k p w. w) (look_judged Γ n Shapes shapes lo hi shapes_tells i)
+record_name_right Γ n lo hi i = cleaned (look_judged Γ n Shapes shapes lo hi shapes_tells i)
 
 mutual
   pub written_right : (Γ : Env) (m : tree.Mode) (lo hi : ℕ) → InMode lo m hi → Checks lo hi (written Γ m) (judge_written Γ m)
@@ -78,7 +80,7 @@ init_le I le (given ns a) lo hi i =
     omega arith
 
 local_item_right : (Γ : Env) (m : Mode) (x : Init (Expr 5)) (lo hi : ℕ) → InInit In lo x hi → Checks lo hi (local_item Γ m x) (judge_local_item Γ m x)
-local_item_right Γ m (tree.plain n) lo hi i = asked lo hi 12 n (Starts m) (starts m) i (starts_tells m)
+local_item_right Γ m (tree.plain n) lo hi i = asked lo hi (NoValue n) (Starts m) (starts m) i (starts_tells m)
 local_item_right Γ m (given ns e) lo hi i =
     let f = many_le InName name_le ns lo i.0 i.1 in
     wider lo hi (omega arith) (omega arith) (brought_check Γ m e i.0 hi i.2)
@@ -155,7 +157,7 @@ targets_right Γ (more ds d) lo hi i =
     like _ _
     (λ c h. (h.0, h.1, h.2, h.3, subst (Joined h.0 h.2) (sym h.4) (joined_to h.0 h.2)))
     (λ c h. (h.0, h.1, h.2, h.3, joined_back h.0 h.2 c h.4))
-    (λ n p w. w) (λ n p w. w)
+    (λ f w. w) (λ f w. w)
     (two join (destinations_le ds lo i.0 i.1) (destination_le d i.0 hi i.2) (targets_right Γ ds lo i.0 i.1) (target_right Γ d i.0 hi i.2))
 
 front_destination_in : (d : Destination) (lo hi : ℕ) → InDestination lo d hi → Span lo hi (front_destination d)
@@ -170,18 +172,17 @@ front_destinations_in (more ds d) lo hi i =
     (f.0, omega arith)
 
 -- at p in any case
-pub refusing : (lo hi k p : ℕ) → Span lo hi p → Judged lo hi (λ (u : Unit {0}). ⊥) (At k p) (must k p None)
-refusing lo hi k p i = like _ _ (λ u x. x) (λ u x. x) (λ n q w. w.1) (λ n q w. ((λ u x. x), w)) (lacking lo hi k p i (none (λ u x. x)))
+pub refusing : (lo hi : ℕ) (f : Refusal) → Span lo hi (place_of f) → Judged lo hi (λ (u : Unit {0}). ⊥) (At f) (must f None)
+refusing lo hi f i = like _ _ (λ u x. x) (λ u x. x) (λ g w. w.1) (λ g w. ((λ u x. x), w)) (lacking lo hi f i (none (λ u x. x)))
 
 into_right : (Γ : Env) (o : Option Mode) (p : ℕ) (e : Expr 5) (lo mid hi : ℕ) → lo ≤ mid → Span lo hi p → In mid e hi → Checks lo hi (into o p (expr Γ e) (spot e)) (judge_into o p (judge Γ e) (spot e))
 into_right Γ None p e lo mid hi l i k =
-    likewise _ (λ n q w. w) (λ n q w. w)
-    (chain (λ u v. ⊥) _ _ (wider lo hi l (omega arith) (plainly (expr_right Γ e mid hi k))) (λ u h. refusing lo hi 11 p i))
+    cleaned (chain (λ u v. ⊥) _ _ (wider lo hi l (omega arith) (plainly (expr_right Γ e mid hi k))) (λ u h. refusing lo hi (Misfit p) i))
 into_right Γ (Some m) p e lo mid hi l i k = wider lo hi l (omega arith) (brought_check Γ m e mid hi k)
 
-into_inner : (q : ℕ) (x : Form) (s : ℕ) (o : Option Mode) (n p : ℕ) → x.wrong n p → into o q x s n p
-into_inner q x s None n p w = inl w
-into_inner q x s (Some m) n p w = inl w
+into_inner : (p : ℕ) (x : Form) (s : ℕ) (o : Option Mode) → Also x.wrong (into o p x s)
+into_inner p x s None f w = inl w
+into_inner p x s (Some m) f w = inl w
 
 silent_tells : (o : Option Mode) → Tells (Silent o) (silent o)
 silent_tells None = found tt (λ u x. refl)
@@ -259,18 +260,18 @@ mutual
       let l = destinations_le ds lo k i.1 in
       let g = expr_le e k hi i.2 in
       let f = front_destinations_in ds lo k i.1 in
-      likewise _ (λ n p w. w) (λ n p w. w)
+      cleaned
       (alone (λ c. Clean (into c (front_destinations ds) (expr Γ e) (spot e))) _ (expr Γ e).wrong _ l g (targets_right Γ ds lo k i.1) (expr_right Γ e k hi i.2).within (into_inner (front_destinations ds) (expr Γ e) (spot e))
       (λ c h. into_right Γ c (front_destinations ds) e lo k hi l (f.0, omega arith) i.2))
-  statement_right Γ (invoke n k) lo hi i = likewise _ (λ n p w. w) (λ n p w. w) (called_right Γ lo hi n 0 _ _ Silent silent i silent_tells (λ ms j p v. v) (λ ms. nothing (n + 1) hi))
+  statement_right Γ (invoke n k) lo hi i = cleaned (called_right Γ lo hi n 0 _ _ Silent silent i silent_tells (λ ms f v. v) (λ ms. nothing (n + 1) hi))
   statement_right Γ (invoke_on n k es) lo hi i =
       let f = exprs_le es (n + 1) hi i.1 in
-      likewise _ (λ n p w. w) (λ n p w. w) (called_right Γ lo hi n (count es) _ _ Silent silent (i.0, omega arith) silent_tells (λ ms. args_inner Γ ms es) (λ ms. args_right Γ ms es (n + 1) hi i.1))
+      cleaned (called_right Γ lo hi n (count es) _ _ Silent silent (i.0, omega arith) silent_tells (λ ms. args_inner Γ ms es) (λ ms. args_right Γ ms es (n + 1) hi i.1))
   statement_right Γ (branch ws) lo hi i = arms_right Γ ws lo hi i
   statement_right Γ (branch_else ws s) lo hi i = next (arms_le ws lo i.0 i.1) (sequence_le s i.0 hi i.2) (arms_right Γ ws lo i.0 i.1) (sequence_right Γ s i.0 hi i.2)
   statement_right Γ (repeat e b) lo hi i = next (expr_le e lo i.0 i.1) (body_le b i.0 hi i.2) (brought_check Γ INT e lo i.0 i.1) (body_right Γ b i.0 hi i.2)
   statement_right Γ (loop c s) lo hi i = guarded Γ _ _ lo i.0 hi (sequence_le s i.0 hi i.2) c i.1 (sequence_right Γ s i.0 hi i.2)
-  statement_right Γ (return k) lo hi i = asked lo hi 11 k (Silent Γ.result) (silent Γ.result) i (silent_tells Γ.result)
+  statement_right Γ (return k) lo hi i = asked lo hi (Misfit k) (Silent Γ.result) (silent Γ.result) i (silent_tells Γ.result)
   statement_right Γ (return_with k j e) lo hi i =
       let f = front_in e (k + 1) hi i.1 in
       into_right Γ Γ.result k e lo (k + 1) hi (omega (arith, i.0)) (i.0, omega arith) i.1

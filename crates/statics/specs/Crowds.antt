@@ -1,8 +1,9 @@
--- The parameters and locals of a procedure: 14. Assumes nothing.
+-- The parameters and locals of a procedure. Assumes nothing.
 use Rattle.std.specs.Prelude.{◌≡◌, ℕ, List, [], ◌∷◌, ◌++◌, map, Some}
+use Rattle.statics.specs.declared.Refusal.TheVariants.{TooManyLocals}
 use Rattle.grammar.specs.Trees.{given, Body, body, Sequence, single, sequel, Statement, dummy, block, assign, invoke, invoke_on, branch, branch_else, repeat, loop, return, return_with, Arms, when, elsewhen, Brick, store, procedure, Moditem, blank, external_procs, external_store, own, entry, Module}
 use Rattle.grammar.specs.Trees as tree
-use Rattle.statics.specs.Laws.{Wrongs, Any}
+use Rattle.statics.specs.Laws.{Wrongs, Wherever, Any}
 use Rattle.statics.specs.Scopes.{Text}
 use Rattle.statics.specs.Expressions.{nth}
 use Rattle.statics.specs.Written.{gather, items}
@@ -59,4 +60,4 @@ abbrev pub Beyond : Allowance → ℕ → Type 0
 Beyond a p = nth a.names a.most ≡ Some p
 
 abbrev pub locals_wrongs : Text → Module → Wrongs
-locals_wrongs x m n p = (n ≡ 14) × Any (λ a. Beyond a p) (gather (moditem_allowances x) m)
+locals_wrongs x m = Wherever TooManyLocals (λ p. Any (λ a. Beyond a p) (gather (moditem_allowances x) m))

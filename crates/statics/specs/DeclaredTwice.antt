@@ -1,8 +1,9 @@
--- A name declared twice in one scope: 9. Assumes nothing.
+-- A name declared twice in one scope. Assumes nothing.
 use Rattle.std.specs.Prelude.{◌≡◌, ℕ, ◌⊎◌, List, [], ◌∷◌, ◌++◌, map}
+use Rattle.statics.specs.declared.Refusal.TheVariants.{DeclaredTwice}
 use Rattle.grammar.specs.Trees.{Body, body, Sequence, single, sequel, Statement, dummy, block, assign, invoke, invoke_on, branch, branch_else, repeat, loop, return, return_with, Arms, when, elsewhen, Brick, store, procedure, Moditem, blank, external_procs, external_store, own, entry, Module}
 use Rattle.grammar.specs.Trees as tree
-use Rattle.statics.specs.Laws.{Wrongs, Any}
+use Rattle.statics.specs.Laws.{Wrongs, Wherever, Any}
 use Rattle.statics.specs.Scopes.{Text}
 use Rattle.statics.specs.Written.{gather, items}
 use Rattle.statics.specs.Statements.{entries}
@@ -55,4 +56,4 @@ Twice x [] p = ⊥
 Twice x (n ∷ ns) p = Any (λ q. (p ≡ q) × (x.word q ≡ x.word n)) ns ⊎ Twice x ns p
 
 abbrev pub twice_wrongs : Text → Module → Wrongs
-twice_wrongs x m n p = (n ≡ 9) × Any (λ s. Twice x s p) (scopes x m)
+twice_wrongs x m = Wherever DeclaredTwice (λ p. Any (λ s. Twice x s p) (scopes x m))

@@ -1,5 +1,6 @@
 -- The rules of expressions and conditions: what a form stands for, and what is wrong with it. Assumes nothing.
 use Rattle.std.specs.Prelude.{◌≡◌, ℕ, zero, suc, Bool, true, false, cond, ◌&&◌, List, [], ◌∷◌, length, Some, None, Option, nat_lt}
+use Rattle.statics.specs.declared.Refusal.TheVariants.{WrongName, Misfit}
 use Rattle.grammar.specs.Trees.{Dyadic, times, divide, modulo, land, lor, nev, plus, minus, Monadic, positive, negative, absolute, complement, narrow, size, Expr, term, up, dyadic, Term, monadic, primary, Primary, integer, text, variable, call, call_on, paren, Variable, name, element, component, Exprs, first, comma, Comparator, equal, unequal, less, at_most, greater, at_least, same_place, other_place, Comparison, compare, Condition, Many, one, more}
 use Rattle.statics.specs.Modes.{int, byte, Mode, plain, ref, ref_record, ref_array, simple, INT, BYTE, Thing, value, Need, mode, number, reference, elements, components, Fits, subscript, referred_record}
 use Rattle.statics.specs.Laws.{Wrongs, Never, Both, Under, Lacks, Clean, Pair}
@@ -20,7 +21,7 @@ abbrev pub Gives : Form → Need → Mode → Type 0
 Gives x n = Pair x.has (Fits n)
 
 abbrev pub Off : Form → ℕ → Need → Wrongs
-Off x s n = Both x.wrong (Under x.has (λ t. Lacks (Fits n t) 11 s))
+Off x s n = Both x.wrong (Under x.has (λ t. Lacks (Fits n t) (Misfit s)))
 
 -- what stands for t
 abbrev pub fixed : Thing → Form
@@ -31,7 +32,7 @@ fixed t = record { has = λ u. u ≡ t; wrong = Never }
 abbrev pub named : {A B : Type 0} → Env → ℕ → (Class → A → Type 0) → Wrongs → (A → Rule B) → Rule B
 named Γ n P E x = record {
   has = Pair (Called Γ n P) (λ a. (x a).has);
-  wrong = Both (Lacks (Called Γ n P) 10 n) (Both E (Under (Called Γ n P) (λ a. (x a).wrong)));
+  wrong = Both (Lacks (Called Γ n P) (WrongName n)) (Both E (Under (Called Γ n P) (λ a. (x a).wrong)));
 }
 
 -- a base with a subscript
@@ -45,7 +46,7 @@ subscripted b s e z = record {
 abbrev pub selected : Env → Form → ℕ → ℕ → Form
 selected Γ b s c = record {
   has = Pair (Gives b components) (λ m. Selects Γ (referred_record m) c);
-  wrong = Both (Off b s components) (Under (Gives b components) (λ m. Lacks (Selects Γ (referred_record m) c) 10 c));
+  wrong = Both (Off b s components) (Under (Gives b components) (λ m. Lacks (Selects Γ (referred_record m) c) (WrongName c)));
 }
 
 -- INT for arithmetic; INT or BYTE for the logical operators, which give BYTE on two BYTEs
@@ -123,7 +124,7 @@ Suits s k R t = (k ≡ length s.takes) × R s.gives t
 abbrev pub applied : {B : Type 0} → ℕ → (List Mode → Wrongs) → ℕ → (Option Mode → B → Type 0) → Signature → Rule B
 applied n W k R s = record {
   has = Pair (Clean (W s.takes)) (λ u. Suits s k R);
-  wrong = Both (W s.takes) (Under (Clean (W s.takes)) (λ u. Lacks (Suits s k R) 11 n));
+  wrong = Both (W s.takes) (Under (Clean (W s.takes)) (λ u. Lacks (Suits s k R) (Misfit n)));
 }
 
 -- in an expression a call has a result
@@ -216,7 +217,7 @@ Operands a b n mk = Gives a n mk.0 × Gives b n mk.1
 abbrev pub comparison : Env → Comparison → Wrongs
 comparison Γ (compare a o b) =
     Both (Both (Off (expr Γ a) (spot a) (compared o)) (Off (expr Γ b) (spot b) (compared o)))
-    (Under (Operands (expr Γ a) (expr Γ b) (compared o)) (λ mk. Lacks (λ (u : Unit {0}). Agree o mk.0 mk.1) 11 (front a)))
+    (Under (Operands (expr Γ a) (expr Γ b) (compared o)) (λ mk. Lacks (λ (u : Unit {0}). Agree o mk.0 mk.1) (Misfit (front a))))
 
 -- the wrongs of each of many
 abbrev pub each : {A : Type 0} → (A → Wrongs) → Many A → Wrongs

@@ -1,6 +1,7 @@
 -- The judging of expressions and conditions as functions: the first wrong met from left to right. Theorems says that it is right.
 use Rattle.std.specs.Prelude.{ℕ, zero, suc, Bool, true, false, cond, ◌&&◌, List, length, Some, None, Ok, Err, Option, Result, ◌==◌, nat_lt, slice_index_or}
 use Rattle.statics.specs.declared.Refusal.{Refusal}
+use Rattle.statics.specs.declared.Refusal.TheVariants.{WrongName, Misfit}
 use Rattle.grammar.specs.Trees.{Expr, term, up, dyadic, Term, monadic, primary, Primary, integer, text, variable, call, call_on, paren, Variable, name, element, component, Exprs, first, comma, Comparator, equal, unequal, less, at_most, greater, at_least, same_place, other_place, Comparison, compare, Condition, Many, one, more}
 use Rattle.statics.specs.Modes.{Word, Plain, int, byte, Mode, plain, ref, ref_record, ref_array, Element, simple, records, INT, Thing, value, place, array, structure, Need, mode, number, reference, elements, components, scalar, pointed, subscript, referred_record}
 use Rattle.statics.specs.Scopes.{Env, same_word, Class, record_mode, brick, stored, local, routine, part, Signature, Head, thing, signature, nobody, class_at, component_at}
@@ -12,10 +13,10 @@ abbrev pub then : {A B : Type 0} → Result A Refusal → (A → Result B Refusa
 then (Ok a) f = f a
 then (Err r) f = Err r
 
--- what is there, or the number k at p
-abbrev pub must : {A : Type 0} → ℕ → ℕ → Option A → Result A Refusal
-must k p (Some a) = Ok a
-must k p None = Err (record { number = k; place = p })
+-- what is there, or the refusal f
+abbrev pub must : {A : Type 0} → Refusal → Option A → Result A Refusal
+must f (Some a) = Ok a
+must f None = Err f
 
 -- what passes the test
 abbrev pub provided : {A : Type 0} → Bool → A → Option A
@@ -137,7 +138,7 @@ fit pointed (structure r) = None
 
 -- what is right, brought to what is needed
 abbrev pub bring : Need → ℕ → Result Thing Refusal → Result Mode Refusal
-bring n p r = then r (λ t. must 11 p (fit n t))
+bring n p r = then r (λ t. must (Misfit p) (fit n t))
 
 -- the last below n that passes
 abbrev pub seek : ℕ → (ℕ → Bool) → Option ℕ
@@ -149,7 +150,7 @@ called_at Γ n = bind (seek (length Γ.names) (λ k. same_word (slice_index_or �
 
 -- the name at n, picked by its class
 abbrev pub look : {A : Type 0} → Env → ℕ → (Class → Option A) → Result A Refusal
-look Γ n pick = must 10 n (bind (called_at Γ n) (λ i. pick (class_at Γ i)))
+look Γ n pick = must (WrongName n) (bind (called_at Γ n) (λ i. pick (class_at Γ i)))
 
 abbrev pub stands : Class → Option Thing
 stands record_mode = None
@@ -198,7 +199,7 @@ abbrev pub judge_subscript : Result Thing Refusal → ℕ → Result Thing Refus
 judge_subscript b s e z = then (bring elements s b) (λ m. then (bring (mode INT) z e) (λ k. Ok (subscript m)))
 
 abbrev pub judge_select : Env → Result Thing Refusal → ℕ → ℕ → Result Thing Refusal
-judge_select Γ b s c = then (bring components s b) (λ m. must 10 c (selects Γ (referred_record m) c))
+judge_select Γ b s c = then (bring components s b) (λ m. must (WrongName c) (selects Γ (referred_record m) c))
 
 abbrev pub done : {A : Type 0} → A → Result (Unit {0}) Refusal
 done a = Ok tt
@@ -212,7 +213,7 @@ yields None = None
 yields (Some m) = Some (value m)
 
 abbrev pub apply : {A : Type 0} → ℕ → (List Mode → Result (Unit {0}) Refusal) → ℕ → (Option Mode → Option A) → Signature → Result A Refusal
-apply n W k R s = then (W s.takes) (λ u. must 11 n (cond (k == length s.takes) (R s.gives) None))
+apply n W k R s = then (W s.takes) (λ u. must (Misfit n) (cond (k == length s.takes) (R s.gives) None))
 
 abbrev pub judge_call : {A : Type 0} → Env → ℕ → (List Mode → Result (Unit {0}) Refusal) → ℕ → (Option Mode → Option A) → Result A Refusal
 judge_call Γ n W k R = then (look Γ n runs) (apply n W k R)
@@ -269,7 +270,7 @@ agree same_place m k = same_mode m k
 agree other_place m k = same_mode m k
 
 abbrev pub judge_comparison : Env → Comparison → Result (Unit {0}) Refusal
-judge_comparison Γ (compare a o b) = then (bring (compared o) (spot a) (judge Γ a)) (λ m. then (bring (compared o) (spot b) (judge Γ b)) (λ k. must 11 (front a) (cond (agree o m k) (Some tt) None)))
+judge_comparison Γ (compare a o b) = then (bring (compared o) (spot a) (judge Γ a)) (λ m. then (bring (compared o) (spot b) (judge Γ b)) (λ k. must (Misfit (front a)) (cond (agree o m k) (Some tt) None)))
 
 abbrev pub judge_each : {A : Type 0} → (A → Result (Unit {0}) Refusal) → Many A → Result (Unit {0}) Refusal
 judge_each f (one a) = f a

@@ -1,6 +1,7 @@
 -- The judging of a whole module as a function. Theorems says that it is right.
 use Rattle.std.specs.Prelude.{ℕ, ◌+◌, cond, List, [], ◌∷◌, ◌++◌, Some, None, Ok, Err, Option, Result, nat_lt}
 use Rattle.statics.specs.declared.Refusal.{Refusal}
+use Rattle.statics.specs.declared.Refusal.TheVariants.{DeclaredTwice, TooManyPlaces, TooManyLocals}
 use Rattle.grammar.specs.Trees.{Module}
 use Rattle.statics.specs.Scopes.{Text, same_word}
 use Rattle.statics.specs.Expressions.{nth}
@@ -11,10 +12,10 @@ use Rattle.statics.specs.Crowds.{Allowance, moditem_allowances}
 use Rattle.statics.specs.JudgeExpressions.{then}
 use Rattle.statics.specs.JudgeModules.{judge_module}
 
--- nothing, or the number k at what is there
-abbrev pub report : ℕ → Option ℕ → Result (Unit {0}) Refusal
+-- nothing, or k at the item that is there
+abbrev pub report : (ℕ → Refusal) → Option ℕ → Result (Unit {0}) Refusal
 report k None = Ok tt
-report k (Some p) = Err (record { number = k; place = p })
+report k (Some p) = Err (k p)
 
 abbrev pub lower : ℕ → Option ℕ → ℕ
 lower a None = a
@@ -49,13 +50,13 @@ abbrev pub beyond : Allowance → List ℕ
 beyond a = option_list (nth a.names a.most)
 
 abbrev pub judge_twice : Text → Module → Result (Unit {0}) Refusal
-judge_twice x m = report 9 (least (flatten (doubles x) (scopes x m)))
+judge_twice x m = report DeclaredTwice (least (flatten (doubles x) (scopes x m)))
 
 abbrev pub judge_space : Text → Module → Result (Unit {0}) Refusal
-judge_space x m = report 13 (passing 4096 0 (charges x m))
+judge_space x m = report TooManyPlaces (passing 4096 0 (charges x m))
 
 abbrev pub judge_locals : Text → Module → Result (Unit {0}) Refusal
-judge_locals x m = report 14 (least (flatten beyond (gather (moditem_allowances x) m)))
+judge_locals x m = report TooManyLocals (least (flatten beyond (gather (moditem_allowances x) m)))
 
 abbrev pub judge_static : Text → Module → Result (Unit {0}) Refusal
 judge_static x m = then (judge_twice x m) (λ a. then (judge_module x m) (λ b. then (judge_space x m) (λ c. judge_locals x m)))

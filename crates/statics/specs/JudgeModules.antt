@@ -1,6 +1,7 @@
 -- The judging of initial values and module items as functions. Theorems says that it is right.
 use Rattle.std.specs.Prelude.{ℕ, Bool, true, false, cond, ◌&&◌, ◌||◌, List, [], ◌∷◌, length, Some, None, Ok, codes, Option, Result, ◌==◌, nat_lt}
 use Rattle.statics.specs.declared.Refusal.{Refusal}
+use Rattle.statics.specs.declared.Refusal.TheVariants.{WrongName, Misfit, NoValue}
 use Rattle.grammar.specs.Trees.{Value, constant, signed, minus_signed, identifier, string, empty_list, list, Values, only, and, Entry, once, repeated, Many, one, more, Opt, Fields, also, Init, given, Dec, variables, arrays, structures, Brick, store, procedure, Moditem, blank, external_procs, external_store, own, entry, Module}
 use Rattle.grammar.specs.Trees as tree
 use Rattle.statics.specs.Modes.{Word, int, byte, Mode, plain, ref, ref_record, ref_array, Element, simple, records, INT, BYTE, Thing}
@@ -11,7 +12,7 @@ use Rattle.statics.specs.Modules.{maybe_mode, modes, in_record, in_procedure, ou
 use Rattle.statics.specs.JudgeExpressions.{then, must, look, keeps, same_mode, same_element, judge_each}
 use Rattle.statics.specs.JudgeStatements.{judge_record_name, judge_written, judge_element, judge_body}
 
--- that a test passes, or the number k at p
+-- what a test that passes has
 abbrev pub holds : Bool → Option (Unit {0})
 holds b = cond b (Some tt) None
 
@@ -56,13 +57,13 @@ repeats (recorded r) = false
 
 abbrev mutual
   pub judge_value : Env → Want → Value → Result (Unit {0}) Refusal
-  judge_value Γ w (constant i) = must 11 i (holds (takes_integer w false (Γ.text.value i)))
-  judge_value Γ w (signed s i) = must 11 s (holds (takes_integer w true (Γ.text.value i)))
-  judge_value Γ w (minus_signed s i) = must 11 s (holds (takes_integer w true (Γ.text.value i)))
-  judge_value Γ w (identifier n) = then (look Γ n keeps) (λ t. must 11 n (holds (takes_name w t)))
-  judge_value Γ w (string i) = must 11 i (holds (takes_string w (Γ.text.size i)))
-  judge_value Γ w (empty_list i) = must 11 i (holds (takes_list Γ w 0 0))
-  judge_value Γ w (list i vs) = then (judge_values Γ w vs) (λ u. must 11 i (holds (takes_list Γ w (how_many vs) (total Γ.text.value vs))))
+  judge_value Γ w (constant i) = must (Misfit i) (holds (takes_integer w false (Γ.text.value i)))
+  judge_value Γ w (signed s i) = must (Misfit s) (holds (takes_integer w true (Γ.text.value i)))
+  judge_value Γ w (minus_signed s i) = must (Misfit s) (holds (takes_integer w true (Γ.text.value i)))
+  judge_value Γ w (identifier n) = then (look Γ n keeps) (λ t. must (Misfit n) (holds (takes_name w t)))
+  judge_value Γ w (string i) = must (Misfit i) (holds (takes_string w (Γ.text.size i)))
+  judge_value Γ w (empty_list i) = must (Misfit i) (holds (takes_list Γ w 0 0))
+  judge_value Γ w (list i vs) = then (judge_values Γ w vs) (λ u. must (Misfit i) (holds (takes_list Γ w (how_many vs) (total Γ.text.value vs))))
 
   pub judge_values : Env → Want → Values → Result (Unit {0}) Refusal
   judge_values Γ w (only e) = judge_entry Γ w 0 e
@@ -70,7 +71,7 @@ abbrev mutual
 
   pub judge_entry : Env → Want → ℕ → Entry → Result (Unit {0}) Refusal
   judge_entry Γ w k (once v) = judge_value Γ (inner Γ w k) v
-  judge_entry Γ w k (repeated v i n) = then (judge_value Γ (inner Γ w k) v) (λ u. must 11 (front_value v) (holds (repeats w)))
+  judge_entry Γ w k (repeated v i n) = then (judge_value Γ (inner Γ w k) v) (λ u. must (Misfit (front_value v)) (holds (repeats w)))
 
 abbrev pub is_plain : Mode → Bool
 is_plain (plain k) = true
@@ -118,7 +119,7 @@ abbrev pub admitted : Word → Signature → Bool
 admitted w s = (same_word w (codes "INBYTE") && (no_modes s.takes && is_mode s.gives INT)) || (same_word w (codes "OUTBYTE") && (one_byte s.takes && no_mode s.gives))
 
 abbrev pub judge_data_item : Env → Want → Init Value → Result (Unit {0}) Refusal
-judge_data_item Γ w (tree.plain n) = must 12 n (holds (valueless Γ w))
+judge_data_item Γ w (tree.plain n) = must (NoValue n) (holds (valueless Γ w))
 judge_data_item Γ w (given ns v) = judge_value Γ w v
 
 abbrev pub judge_data_dec : Env → Dec (Many (Init Value)) → Result (Unit {0}) Refusal
@@ -136,8 +137,8 @@ abbrev pub judge_moditem : Env → Moditem → Result (Unit {0}) Refusal
 judge_moditem Γ blank = Ok tt
 judge_moditem Γ (external_procs i ms m ns) =
     then (judge_opt (judge_each (judge_written Γ)) ms)
-    (λ u. then (judge_opt (judge_written Γ) m) (λ v. judge_each (λ n. must 10 n (holds (admitted (Γ.text.word n) (record { takes = modes Γ.text ms; gives = maybe_mode Γ.text m })))) ns))
-judge_moditem Γ (external_store n ds) = must 10 n None
+    (λ u. then (judge_opt (judge_written Γ) m) (λ v. judge_each (λ n. must (WrongName n) (holds (admitted (Γ.text.word n) (record { takes = modes Γ.text ms; gives = maybe_mode Γ.text m })))) ns))
+judge_moditem Γ (external_store n ds) = must (WrongName n) None
 judge_moditem Γ (tree.record_mode n i fs) = judge_fields (in_record Γ fs) fs
 judge_moditem Γ (own b) = judge_brick Γ b
 judge_moditem Γ (entry b) = judge_brick Γ b

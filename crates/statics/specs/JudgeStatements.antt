@@ -1,6 +1,7 @@
 -- The judging of blocks and statements as functions. Theorems says that it is right.
 use Rattle.std.specs.Prelude.{ℕ, length, Some, None, Ok, Option, Result}
 use Rattle.statics.specs.declared.Refusal.{Refusal}
+use Rattle.statics.specs.declared.Refusal.TheVariants.{Misfit, NoValue}
 use Rattle.grammar.specs.Trees.{Expr, Variable, Exprs, Many, one, more, Init, given, Local, Locals, no_locals, locals, Destination, val, Body, body, Sequence, single, sequel, Statement, dummy, block, assign, invoke, invoke_on, branch, branch_else, repeat, loop, return, return_with, Arms, when, elsewhen}
 use Rattle.grammar.specs.Trees as tree
 use Rattle.statics.specs.Modes.{Mode, plain, ref, ref_record, ref_array, INT, Thing, mode}
@@ -29,7 +30,7 @@ abbrev mutual
   judge_element Γ (tree.records n) = judge_record_name Γ n
 
 abbrev pub judge_into : Option Mode → ℕ → Result Thing Refusal → ℕ → Result (Unit {0}) Refusal
-judge_into None p r s = then (then r done) (λ u. must 11 p None)
+judge_into None p r s = then (then r done) (λ u. must (Misfit p) None)
 judge_into (Some m) p r s = then (bring (mode m) s r) done
 
 abbrev pub starts : Mode → Option (Unit {0})
@@ -39,7 +40,7 @@ starts (ref_record r) = None
 starts (ref_array e) = None
 
 abbrev pub judge_local_item : Env → Mode → Init (Expr 5) → Result (Unit {0}) Refusal
-judge_local_item Γ m (tree.plain n) = must 12 n (starts m)
+judge_local_item Γ m (tree.plain n) = must (NoValue n) (starts m)
 judge_local_item Γ m (given ns e) = then (bring (mode m) (spot e) (judge Γ e)) done
 
 abbrev pub judge_local_items : Env → Mode → Many (Init (Expr 5)) → Result (Unit {0}) Refusal
@@ -85,7 +86,7 @@ abbrev mutual
   judge_statement Γ (branch_else ws s) = then (judge_arms Γ ws) (λ u. judge_sequence Γ s)
   judge_statement Γ (repeat e b) = then (then (bring (mode INT) (spot e) (judge Γ e)) done) (λ u. judge_body Γ b)
   judge_statement Γ (loop c s) = then (judge_condition Γ c) (λ u. judge_sequence Γ s)
-  judge_statement Γ (return i) = must 11 i (silent Γ.result)
+  judge_statement Γ (return i) = must (Misfit i) (silent Γ.result)
   judge_statement Γ (return_with i j e) = judge_into Γ.result i (judge Γ e) (spot e)
 
   pub judge_arms : Env → Arms → Result (Unit {0}) Refusal

@@ -1,3 +1,4 @@
+pub mod Refusals
 pub mod Modes
 pub mod Laws
 pub mod Scopes

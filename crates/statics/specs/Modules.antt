@@ -1,5 +1,6 @@
 -- The rules of module items, and the names of a module. Assumes nothing.
 use Rattle.std.specs.Prelude.{◌≡◌, ℕ, ◌+◌, true, ◌⊎◌, List, [], ◌∷◌, ◌++◌, map, length, Some, None, codes, Option}
+use Rattle.statics.specs.declared.Refusal.TheVariants.{WrongName, NoValue}
 use Rattle.grammar.specs.Trees.{Many, one, more, Opt, Fields, also, Init, given, Value, Dec, variables, arrays, structures, Locals, Body, body, Brick, store, procedure, Moditem, blank, external_procs, external_store, own, entry, Module}
 use Rattle.grammar.specs.Trees as tree
 use Rattle.statics.specs.Modes.{Word, Mode, INT, BYTE, place, array, structure}
@@ -101,7 +102,7 @@ Admitted w s u =
     ((w ≡ codes "INBYTE") × (s.takes ≡ []) × (s.gives ≡ Some INT)) ⊎ ((w ≡ codes "OUTBYTE") × (s.takes ≡ BYTE ∷ []) × (s.gives ≡ None))
 
 abbrev pub data_item : Env → Want → Init Value → Wrongs
-data_item Γ w (tree.plain n) = Lacks (Valueless Γ w) 12 n
+data_item Γ w (tree.plain n) = Lacks (Valueless Γ w) (NoValue n)
 data_item Γ w (given ns v) = initial Γ w v
 
 abbrev pub data_dec : Env → Dec (Many (Init Value)) → Wrongs
@@ -135,12 +136,12 @@ a_brick Γ (procedure n i ps m b e) =
 abbrev pub moditem : Env → Moditem → Wrongs
 moditem Γ blank = Never
 moditem Γ (external_procs i ms m ns) =
-    Both (modes_written Γ ms) (Both (maybe_written Γ m) (each (λ n. Lacks (Admitted (Γ.text.word n) (record { takes = modes Γ.text ms; gives = maybe_mode Γ.text m })) 10 n) ns))
-moditem Γ (external_store n ds) = At 10 n
+    Both (modes_written Γ ms) (Both (maybe_written Γ m) (each (λ n. Lacks (Admitted (Γ.text.word n) (record { takes = modes Γ.text ms; gives = maybe_mode Γ.text m })) (WrongName n)) ns))
+moditem Γ (external_store n ds) = At (WrongName n)
 moditem Γ (tree.record_mode n i fs) = fields_written (in_record Γ fs) fs
 moditem Γ (own b) = a_brick Γ b
 moditem Γ (entry b) = a_brick Γ b
 
--- THE WRONGS of a module, with the numbers 10, 11 and 12.
+-- THE WRONGS of a module: names, misfits and references without a value.
 abbrev pub module_wrongs : Text → Module → Wrongs
 module_wrongs x m = each (moditem (module_env x m)) m

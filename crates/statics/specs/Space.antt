@@ -1,9 +1,10 @@
--- The places of data and strings: 13. Assumes nothing.
+-- The places of data and strings. Assumes nothing.
 use Rattle.std.specs.Prelude.{◌≡◌, ℕ, ◌+◌, ◌*◌, ◌<◌, ◌≤◌, ◌⊎◌, List, [], ◌∷◌, ◌++◌, map, length}
+use Rattle.statics.specs.declared.Refusal.TheVariants.{TooManyPlaces}
 use Rattle.grammar.specs.Trees.{Expr, term, up, dyadic, Term, monadic, primary, Primary, integer, text, variable, call, call_on, paren, Variable, name, element, component, Exprs, first, comma, Comparison, compare, Many, Init, given, Locals, no_locals, locals, Destination, val, Body, body, Sequence, single, sequel, Statement, dummy, block, assign, invoke, invoke_on, branch, branch_else, repeat, loop, return, return_with, Arms, when, elsewhen, Value, constant, signed, minus_signed, identifier, string, empty_list, list, Values, only, and, Entry, once, repeated, Dec, variables, arrays, structures, Brick, store, procedure, Moditem, blank, external_procs, external_store, own, entry, Module}
 use Rattle.grammar.specs.Trees as tree
 use Rattle.statics.specs.Modes.{Element, simple, records}
-use Rattle.statics.specs.Laws.{Wrongs}
+use Rattle.statics.specs.Laws.{Wrongs, Wherever}
 use Rattle.statics.specs.Scopes.{Text, Component, record_modes}
 use Rattle.statics.specs.Written.{mode_of, element_of, gather, item_names}
 use Rattle.statics.specs.Values.{Want, free, simply, several, recorded}
@@ -152,4 +153,4 @@ Passes limit used [] p = ⊥
 Passes limit used (c ∷ cs) p = ((limit < used + c.amount) × (p ≡ c.item)) ⊎ ((used + c.amount ≤ limit) × Passes limit (used + c.amount) cs p)
 
 abbrev pub space_wrongs : Text → Module → Wrongs
-space_wrongs x m n p = (n ≡ 13) × Passes 4096 0 (charges x m) p
+space_wrongs x m = Wherever TooManyPlaces (Passes 4096 0 (charges x m))

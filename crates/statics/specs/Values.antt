@@ -1,5 +1,7 @@
 -- The rules of initial values in a data brick. Assumes nothing.
 use Rattle.std.specs.Prelude.{◌≡◌, ℕ, suc, ◌+◌, ◌<◌, Bool, true, false, ◌⊎◌, List, [], ◌∷◌, length, Some, None, Option}
+use Rattle.statics.specs.declared.Refusal.{Refusal}
+use Rattle.statics.specs.declared.Refusal.TheVariants.{WrongName, Misfit}
 use Rattle.grammar.specs.Trees.{Value, constant, signed, minus_signed, identifier, string, empty_list, list, Values, only, and, Entry, once, repeated}
 use Rattle.statics.specs.Modes.{Word, int, byte, Mode, plain, ref, ref_record, ref_array, Element, simple, records, BYTE, Thing, value, place, array, structure}
 use Rattle.statics.specs.Laws.{Wrongs, Both, Under, Lacks, Clean}
@@ -99,19 +101,19 @@ front_value (string i) = i
 front_value (empty_list i) = i
 front_value (list i vs) = i
 
--- if nothing of W is wrong, K is asked for: k at p
-abbrev pub ThenAsk : Wrongs → (Unit {0} → Type 0) → ℕ → ℕ → Wrongs
-ThenAsk W K k p = Both W (Under (Clean W) (λ u. Lacks K k p))
+-- if nothing of W is wrong, K is asked for: else f
+abbrev pub ThenAsk : Wrongs → (Unit {0} → Type 0) → Refusal → Wrongs
+ThenAsk W K f = Both W (Under (Clean W) (λ u. Lacks K f))
 
 abbrev mutual
   pub initial : Env → Want → Value → Wrongs
-  initial Γ w (constant i) = Lacks (TakesInteger w false (Γ.text.value i)) 11 i
-  initial Γ w (signed s i) = Lacks (TakesInteger w true (Γ.text.value i)) 11 s
-  initial Γ w (minus_signed s i) = Lacks (TakesInteger w true (Γ.text.value i)) 11 s
-  initial Γ w (identifier n) = Both (Lacks (Called Γ n Keeps) 10 n) (Under (Called Γ n Keeps) (λ t. Lacks (TakesName w t) 11 n))
-  initial Γ w (string i) = Lacks (TakesString w (Γ.text.size i)) 11 i
-  initial Γ w (empty_list i) = Lacks (TakesList Γ w 0 0) 11 i
-  initial Γ w (list i vs) = ThenAsk (listed Γ w vs) (TakesList Γ w (how_many vs) (total Γ.text.value vs)) 11 i
+  initial Γ w (constant i) = Lacks (TakesInteger w false (Γ.text.value i)) (Misfit i)
+  initial Γ w (signed s i) = Lacks (TakesInteger w true (Γ.text.value i)) (Misfit s)
+  initial Γ w (minus_signed s i) = Lacks (TakesInteger w true (Γ.text.value i)) (Misfit s)
+  initial Γ w (identifier n) = Both (Lacks (Called Γ n Keeps) (WrongName n)) (Under (Called Γ n Keeps) (λ t. Lacks (TakesName w t) (Misfit n)))
+  initial Γ w (string i) = Lacks (TakesString w (Γ.text.size i)) (Misfit i)
+  initial Γ w (empty_list i) = Lacks (TakesList Γ w 0 0) (Misfit i)
+  initial Γ w (list i vs) = ThenAsk (listed Γ w vs) (TakesList Γ w (how_many vs) (total Γ.text.value vs)) (Misfit i)
 
   pub listed : Env → Want → Values → Wrongs
   listed Γ w (only e) = an_entry Γ w 0 e
@@ -119,7 +121,7 @@ abbrev mutual
 
   pub an_entry : Env → Want → ℕ → Entry → Wrongs
   an_entry Γ w k (once v) = initial Γ (inner Γ w k) v
-  an_entry Γ w k (repeated v i n) = ThenAsk (initial Γ (inner Γ w k) v) (Repeats w) 11 (front_value v)
+  an_entry Γ w k (repeated v i n) = ThenAsk (initial Γ (inner Γ w k) v) (Repeats w) (Misfit (front_value v))
 
 -- Without a value: no REF place in it.
 abbrev pub AllStart : List Mode → Unit {0} → Type 0
