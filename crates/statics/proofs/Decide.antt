@@ -1,10 +1,10 @@
 -- What a result decides, and how decisions are put together: nothing here knows the language. Assumes nothing.
-use Rattle.std.proofs.Common.{◌≡◌, ℕ, ◌<◌, ◌≤◌, Bool, true, false, ◌⊎◌, Some, None, Ok, Err, Option, Result, refl, subst, inl, inr, arith}
+use Rattle.std.proofs.Common.{◌≡◌, ℕ, ◌<◌, ◌≤◌, ◌⊎◌, Some, None, Ok, Err, Option, Result, ok_or, refl, subst, inl, inr, arith}
 use Rattle.statics.specs.declared.Refusal.{Refusal}
 use Rattle.statics.specs.Refusals.{place_of}
 use Rattle.statics.specs.Laws.{Wrongs, Never, At, Both, Under, Lacks, Clean, Pair, Earliest, Verdict}
 use Rattle.statics.specs.Order.{Span}
-use Rattle.statics.specs.JudgeExpressions.{then, must, done}
+use Rattle.statics.specs.JudgeExpressions.{then, done}
 
 -- all wrongs lie from lo up to hi; each of W is one of V
 abbrev pub Within : ℕ → ℕ → Wrongs → Type 0
@@ -22,11 +22,7 @@ pub record Judged (lo hi : ℕ) {A : Type 0} (H : A → Type 0) (W : Wrongs) (r 
   pub within : Within lo hi W
   pub decided : Decided H W r
 
--- the answer of a test; what an option tells
-pub data Told (P : Type 0) : Bool → Type 0 where
-  yes : P → Told P true
-  no : (P → ⊥) → Told P false
-
+-- what an option tells
 pub data Tells {A : Type 0} (K : A → Type 0) : Option A → Type 0 where
   found : {a : A} → K a → ((b : A) → K b → b ≡ a) → Tells K (Some a)
   none : ((a : A) → K a → ⊥) → Tells K None
@@ -40,10 +36,10 @@ pub sure : {A : Type 0} (lo hi : ℕ) (a : A) → Judged lo hi (λ b. b ≡ a) N
 sure lo hi a = record { within = λ f w. absurd w; decided = fine refl (λ b e. e) (λ f w. w) }
 
 -- f where the option has nothing
-pub lacking : {A : Type 0} {K : A → Type 0} {o : Option A} (lo hi : ℕ) (f : Refusal) → Span lo hi (place_of f) → Tells K o → Judged lo hi K (Lacks K f) (must f o)
+pub lacking : {A : Type 0} {K : A → Type 0} {o : Option A} (lo hi : ℕ) (f : Refusal) → Span lo hi (place_of f) → Tells K o → Judged lo hi K (Lacks K f) (ok_or o f)
 lacking {A} {K} lo hi f s t = record { within = λ g w. rw w.1 s; decided = go t }
   where
-    go : {o : Option A} → Tells K o → Decided K (Lacks K f) (must f o)
+    go : {o : Option A} → Tells K o → Decided K (Lacks K f) (ok_or o f)
     go (none t) = refused t ((t, refl), λ g w. inr w.1)
     go (found {a} t one) = fine t one (λ g w. w.0 a t)
 

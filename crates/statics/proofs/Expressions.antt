@@ -1,5 +1,7 @@
 -- Expressions and conditions are judged right, construct by construct. Assumes nothing.
-use Rattle.std.proofs.Common.{◌≡◌, ℕ, suc, ◌+◌, ◌<◌, ◌≤◌, Bool, cond, List, [], length, Some, None, Ok, Err, Option, Result, sym, refl, subst, inl, inr, arith}
+use Rattle.std.proofs.Common.{◌≡◌, ℕ, suc, ◌+◌, ◌<◌, ◌≤◌, List, [], length, Some, None, slice_get, Ok, Err, Option, Result, sym, refl, subst, inl, inr, arith}
+use Rattle.std.specs.Bool.{Decides}
+use Rattle.std.proofs.lemmas.Bool.Decides.{Decides-eqb}
 use Rattle.statics.specs.declared.Refusal.{Refusal}
 use Rattle.statics.specs.declared.Refusal.TheVariants.{WrongName, Misfit}
 use Rattle.grammar.specs.Trees.{Dyadic, Expr, term, up, dyadic, Term, monadic, primary, Primary, integer, text, variable, call, call_on, paren, Variable, name, element, component, Exprs, first, comma, Comparator, equal, unequal, less, at_most, greater, at_least, same_place, other_place, Comparison, compare, Condition, Many, one, more}
@@ -7,11 +9,11 @@ use Rattle.statics.specs.Modes.{Mode, INT, Thing, value, Need, mode, elements, c
 use Rattle.statics.specs.Laws.{Wrongs, Never, Both, Lacks, Clean}
 use Rattle.statics.specs.Scopes.{Env, Class, Signature, Head, thing, signature, Called, Stands, Runs, Heads}
 use Rattle.statics.specs.Fronts.{front, front_term, front_primary, front_variable, spot, spot_term, spot_primary}
-use Rattle.statics.specs.Expressions.{Rule, Form, Gives, Off, fixed, named, subscripted, selected, operand, result, operated, argument, outcome, nth, passed, applied, Yields, called, headed, bracketed, count, figure, string_thing, expr, a_term, a_primary, a_use, a_variable, args, compared, Agree, Operands, comparison, each, condition}
+use Rattle.statics.specs.Expressions.{Rule, Form, Gives, Off, fixed, named, subscripted, selected, operand, result, operated, argument, outcome, passed, applied, Yields, called, headed, bracketed, count, figure, string_thing, expr, a_term, a_primary, a_use, a_variable, args, compared, Agree, Operands, comparison, each, condition}
 use Rattle.statics.specs.Order.{Span, In, InTerm, InPrimary, InVariable, InExprs, InComparison, InMany, InCondition}
-use Rattle.statics.specs.JudgeExpressions.{then, must, bring, look, pass, stands, runs, heads, yields, apply, judge_call, judge_head, judge_bracketed, judge_subscript, judge_select, judge, judge_term, judge_primary, judge_use, judge_variable, judge_args, agree, judge_comparison, judge_each, judge_condition}
-use Rattle.statics.proofs.Decide.{Told, yes, no, Tells, found, none, Within, Also, Judged, sure, lacking, like, cleaned, wider, chain, alone, two, turn, plainly, next, nothing}
-use Rattle.statics.proofs.Fit.{eqb_told, same_mode_told, tells_cond, fit_tells}
+use Rattle.statics.specs.JudgeExpressions.{then, check, bring, look, pass, stands, runs, heads, yields, apply, judge_call, judge_head, judge_bracketed, judge_subscript, judge_select, judge, judge_term, judge_primary, judge_use, judge_variable, judge_args, agree, judge_comparison, judge_each, judge_condition}
+use Rattle.statics.proofs.Decide.{Tells, found, none, Within, Also, Judged, sure, lacking, like, cleaned, wider, chain, alone, two, turn, plainly, next, nothing}
+use Rattle.statics.proofs.Fit.{yes, same_mode_decides, tells_unit, tells_cond, fit_tells}
 use Rattle.statics.proofs.Names.{look_judged, stands_tells, runs_tells, heads_tells, selects_tells}
 
 -- Where the first item, and that of a misfit, lie.
@@ -131,7 +133,7 @@ pub applied_right :
     → ((o : Option Mode) → Tells (R o) (g o))
     → ((ms : List Mode) → Checks lo hi (W ms) (f ms))
     → Right lo hi (applied n W k R s) (apply n f k g s)
-applied_right lo hi n k W f R g s i t c = chain _ _ _ (c s.takes) (λ u h. lacking lo hi (Misfit n) i (tells_cond (eqb_told k (length s.takes)) (t s.gives)))
+applied_right lo hi n k W f R g s i t c = chain _ _ _ (c s.takes) (λ u h. lacking lo hi (Misfit n) i (tells_cond _ (Decides-eqb k (length s.takes)) (t s.gives)))
 
 pub called_right :
     {B : Type 0} (Γ : Env) (lo hi n k : ℕ) (W : List Mode → Wrongs) (f : List Mode → Result (Unit {0}) Refusal) (R : Option Mode → B → Type 0) (g : Option Mode → Option B)
@@ -149,21 +151,21 @@ passed_inner x s None f w = w
 passed_inner x s (Some m) f w = inl w
 
 pub args_inner : (Γ : Env) (ms : List Mode) (es : Exprs) → Also (args Γ [] es) (args Γ ms es)
-args_inner Γ ms (first e) f w = passed_inner (expr Γ e) (spot e) (nth ms 0) f w
+args_inner Γ ms (first e) f w = passed_inner (expr Γ e) (spot e) (slice_get ms 0) f w
 args_inner Γ ms (comma es e) f (inl w) = inl (args_inner Γ ms es f w)
-args_inner Γ ms (comma es e) f (inr w) = inr (passed_inner (expr Γ e) (spot e) (nth ms (count es)) f w)
+args_inner Γ ms (comma es e) f (inr w) = inr (passed_inner (expr Γ e) (spot e) (slice_get ms (count es)) f w)
 
-calls_inner : (Γ : Env) (es : Exprs) (e : Expr 5) (ms : List Mode) → Also (Both (args Γ [] es) (expr Γ e).wrong) (Both (args Γ ms es) (passed (expr Γ e) (spot e) (nth ms (count es))))
+calls_inner : (Γ : Env) (es : Exprs) (e : Expr 5) (ms : List Mode) → Also (Both (args Γ [] es) (expr Γ e).wrong) (Both (args Γ ms es) (passed (expr Γ e) (spot e) (slice_get ms (count es))))
 calls_inner Γ es e ms f w = args_inner Γ ms (comma es e) f w
 
 headed_inner : (n z : ℕ) (e : Form) (h : Head) → Also e.wrong (headed n e z h).wrong
 headed_inner n z e (thing t) f w = inr (inl w)
-headed_inner n z e (signature s) f w = inl (passed_inner e z (nth s.takes 0) f w)
+headed_inner n z e (signature s) f w = inl (passed_inner e z (slice_get s.takes 0) f w)
 
 headed_right : (lo hi n z : ℕ) (e : Form) (r : Result Thing Refusal) (h : Head) → lo ≤ n → Span (n + 1) hi z → Right (n + 1) hi e r → Right lo hi (headed n e z h) (judge_head n r z h)
 headed_right lo hi n z e r (thing t) i k x = subscripted_right lo (n + 1) hi n z (fixed t) e (Ok t) r (i, omega arith) k (sure lo (n + 1) t) x
 headed_right lo hi n z e r (signature s) i k x =
-    applied_right lo hi n 1 _ _ Yields yields s (i, omega arith) yields_tells (λ ms. wider lo hi (omega arith) (omega arith) (passed_right (n + 1) hi z e r (nth ms 0) k x))
+    applied_right lo hi n 1 _ _ Yields yields s (i, omega arith) yields_tells (λ ms. wider lo hi (omega arith) (omega arith) (passed_right (n + 1) hi z e r (slice_get ms 0) k x))
 
 bracketed_right :
     (Γ : Env) (v : Variable) (lo mid hi z : ℕ) (b e : Form) (r q : Result Thing Refusal)
@@ -197,7 +199,7 @@ mutual
       let f = exprs_le es (n + 1) m i.1.1 in
       let g = spot_in e m hi i.1.2 in
       called_right Γ lo hi n (suc (count es)) _ _ Yields yields (front_primary_in (call_on n k es e) lo hi i) yields_tells (calls_inner Γ es e)
-      (λ ms. next (omega arith) (omega arith) (args_right Γ ms es (n + 1) m i.1.1) (passed_right m hi (spot e) (expr Γ e) (judge Γ e) (nth ms (count es)) g (expr_right Γ e m hi i.1.2)))
+      (λ ms. next (omega arith) (omega arith) (args_right Γ ms es (n + 1) m i.1.1) (passed_right m hi (spot e) (expr Γ e) (judge Γ e) (slice_get ms (count es)) g (expr_right Γ e m hi i.1.2)))
   primary_right Γ (paren k e) lo hi i = wider lo hi (omega (arith, i.0)) (omega arith) (expr_right Γ e (k + 1) hi i.1)
 
   pub use_right : (Γ : Env) (v : Variable) (lo hi : ℕ) → InVariable lo v hi → Right lo hi (a_use Γ v) (judge_use Γ v)
@@ -213,32 +215,28 @@ mutual
   variable_right Γ (component v c) lo hi i = selected_right Γ lo i.0 hi (front_variable v) c (a_variable Γ v) (judge_variable Γ v) (front_variable_in v lo i.0 i.1) i.2 (variable_right Γ v lo i.0 i.1)
 
   pub args_right : (Γ : Env) (ms : List Mode) (es : Exprs) (lo hi : ℕ) → InExprs lo es hi → Checks lo hi (args Γ ms es) (judge_args Γ ms es)
-  args_right Γ ms (first e) lo hi i = passed_right lo hi (spot e) (expr Γ e) (judge Γ e) (nth ms 0) (spot_in e lo hi i) (expr_right Γ e lo hi i)
+  args_right Γ ms (first e) lo hi i = passed_right lo hi (spot e) (expr Γ e) (judge Γ e) (slice_get ms 0) (spot_in e lo hi i) (expr_right Γ e lo hi i)
   args_right Γ ms (comma es e) lo hi i =
       let m = i.0 in
       let f = exprs_le es lo m i.1 in
       let g = spot_in e m hi i.2 in
-      next (omega arith) (omega arith) (args_right Γ ms es lo m i.1) (passed_right m hi (spot e) (expr Γ e) (judge Γ e) (nth ms (count es)) g (expr_right Γ e m hi i.2))
+      next (omega arith) (omega arith) (args_right Γ ms es lo m i.1) (passed_right m hi (spot e) (expr Γ e) (judge Γ e) (slice_get ms (count es)) g (expr_right Γ e m hi i.2))
 
 -- Comparisons and conditions.
-agree_told : (o : Comparator) (m k : Mode) → Told (Agree o m k) (agree o m k)
-agree_told equal m k = yes tt
-agree_told unequal m k = yes tt
-agree_told less m k = yes tt
-agree_told at_most m k = yes tt
-agree_told greater m k = yes tt
-agree_told at_least m k = yes tt
-agree_told same_place m k = same_mode_told m k
-agree_told other_place m k = same_mode_told m k
+agree_decides : (o : Comparator) (m k : Mode) → Decides (agree o m k) (Agree o m k)
+agree_decides equal m k = yes tt
+agree_decides unequal m k = yes tt
+agree_decides less m k = yes tt
+agree_decides at_most m k = yes tt
+agree_decides greater m k = yes tt
+agree_decides at_least m k = yes tt
+agree_decides same_place m k = same_mode_decides m k
+agree_decides other_place m k = same_mode_decides m k
 
 then_pair : {A B C : Type 0} (r : Result A Refusal) (s : Result B Refusal) (h : A → B → Result C Refusal) → then {A = A × B} (then r (λ a. then s (λ b. Ok (a, b)))) (λ x. h x.0 x.1) ≡ then r (λ a. then s (λ b. h a b))
 then_pair (Ok a) (Ok b) h = refl
 then_pair (Ok a) (Err f) h = refl
 then_pair (Err f) s h = refl
-
-pub unit_tells : {P : Type 0} {b : Bool} → Told P b → Tells (λ (u : Unit {0}). P) (cond b (Some tt) None)
-unit_tells (yes t) = found t (λ u x. refl)
-unit_tells (no t) = none (λ u x. t x)
 
 pub comparison_right : (Γ : Env) (c : Comparison) (lo hi : ℕ) → InComparison lo c hi → Checks lo hi (comparison Γ c) (judge_comparison Γ c)
 comparison_right Γ (compare a o b) lo hi i =
@@ -247,11 +245,11 @@ comparison_right Γ (compare a o b) lo hi i =
     let f = front_in a lo i.0 i.1 in
     let n = compared o in
     let both = two {C = Mode × Mode} (λ m k. (m, k)) (omega arith) (omega arith) (brought lo i.0 (spot a) (expr Γ a) n (judge Γ a) s (expr_right Γ a lo i.0 i.1)) (brought i.0 hi (spot b) (expr Γ b) n (judge Γ b) z (expr_right Γ b i.0 hi i.2)) in
-    subst (Checks lo hi (comparison Γ (compare a o b))) (then_pair (bring n (spot a) (judge Γ a)) (bring n (spot b) (judge Γ b)) (λ m k. must (Misfit (front a)) (cond (agree o m k) (Some tt) None)))
+    subst (Checks lo hi (comparison Γ (compare a o b))) (then_pair (bring n (spot a) (judge Γ a)) (bring n (spot b) (judge Γ b)) (λ m k. check (agree o m k) (Misfit (front a))))
     (cleaned
-    (chain (λ mk u. Agree o mk.0 mk.1) _ (λ mk. must (Misfit (front a)) (cond (agree o mk.0 mk.1) (Some tt) None))
+    (chain (λ mk u. Agree o mk.0 mk.1) _ (λ mk. check (agree o mk.0 mk.1) (Misfit (front a)))
     (like (Operands (expr Γ a) (expr Γ b) n) _ (λ mk h. (rw h.4 h.1, rw h.4 h.3)) (λ mk h. (mk.0, h.0, mk.1, h.1, refl)) (λ f w. w) (λ f w. w) both)
-    (λ mk h. lacking lo hi (Misfit (front a)) (f.0, omega arith) (unit_tells (agree_told o mk.0 mk.1)))))
+    (λ mk h. lacking lo hi (Misfit (front a)) (f.0, omega arith) (tells_unit _ (agree_decides o mk.0 mk.1)))))
 
 pub many_le : {A : Type 0} (I : ℕ → A → ℕ → Type 0) → ((a : A) (lo hi : ℕ) → I lo a hi → lo ≤ hi) → (m : Many A) (lo hi : ℕ) → InMany I lo m hi → lo ≤ hi
 many_le I le (one a) lo hi i = le a lo hi i

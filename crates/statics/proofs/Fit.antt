@@ -1,54 +1,42 @@
 -- Tests and options, and what fits. Assumes nothing.
-use Rattle.std.proofs.Common.{◌≡◌, ℕ, suc, ◌<◌, Bool, true, false, cond, ◌&&◌, ◌||◌, eqb, ltb, ◌⊎◌, [], ◌∷◌, Some, None, Option, sym, refl, ap, ◌∙◌, subst, inl, inr, arith}
-use Rattle.std.proofs.lemmas.Bool.Decides.{eqb_tells, leb_tells}
+use Rattle.std.proofs.Common.{◌≡◌, ℕ, Bool, true, false, cond, Some, None, Option, option_map, option_and_then, sym, refl, ap, ◌∙◌, subst, arith}
+use Rattle.std.specs.Bool.{Decides, then_some}
+use Rattle.std.proofs.lemmas.Bool.{true≢false}
+use Rattle.std.proofs.lemmas.Bool.Decides.{Decides-like, not_from_Decides}
+use Rattle.std.proofs.lemmas.Slice.Eq.{bytes_eq-Decides}
 use Rattle.statics.specs.Laws.{Pair}
-use Rattle.statics.specs.Scopes.{same_word}
 use Rattle.statics.specs.Modes.{Word, Plain, int, byte, Mode, plain, ref, ref_record, ref_array, Element, simple, records, Thing, value, place, array, structure, Offers, itself, referred, contents, contents_referred, address, array_address, record_address, Widens, alike, wider, Reference, Need, mode, number, reference, elements, components, scalar, pointed, Fits, widened, wanted, a_number, a_reference, an_array, a_record, a_place, a_pointer}
-use Rattle.statics.specs.JudgeExpressions.{provided, maybe, bind, same_plain, same_mode, same_element, plain_of, number_of, ref_of, widens, only_array, only_record, fit_ref, fit_mode, fit}
-use Rattle.statics.proofs.Decide.{Told, yes, no, Tells, found, none}
+use Rattle.statics.specs.JudgeExpressions.{same_plain, same_mode, same_element, plain_of, number_of, ref_of, widens, only_array, only_record, fit_ref, fit_mode, fit}
+use Rattle.statics.proofs.Decide.{Tells, found, none}
 
-pub told_like : {P Q : Type 0} {b : Bool} → (P → Q) → (Q → P) → Told P b → Told Q b
-told_like f g (yes t) = yes (f t)
-told_like f g (no t) = no (λ q. t (g q))
+-- a test that passes, and one that fails
+pub yes : {P : Type 0} → P → Decides true P
+yes p = (λ e. p, λ q. refl)
 
-pub told_both : {P : Type 0} {b : Bool} → Told P b → (b ≡ true → P) × (P → b ≡ true)
-told_both (yes t) = (λ e. t, λ p. refl)
-told_both (no t) = (λ e. let z : ⊥ = grind arith in absurd z, λ p. absurd (t p))
-
-pub told_and : {P Q : Type 0} {b c : Bool} → Told P b → Told Q c → Told (P × Q) (b && c)
-told_and (yes s) (yes t) = yes (s, t)
-told_and (yes s) (no t) = no (λ x. t x.1)
-told_and (no s) t = no (λ x. s x.0)
-
-pub told_or : {P Q : Type 0} {b c : Bool} → Told P b → Told Q c → Told (P ⊎ Q) (b || c)
-told_or (yes s) t = yes (inl s)
-told_or (no s) (yes t) = yes (inr t)
-told_or (no s) (no t) = no (λ x. elim x [ inl y ↦ s y | inr y ↦ t y ])
-
-pub eqb_told : (a b : ℕ) → Told (a ≡ b) (eqb a b)
-eqb_told a b = elim (eqb_tells a b) [ inl x ↦ rw x.0 (yes x.1) | inr x ↦ rw x.0 (no x.1) ]
-
-pub ltb_told : (a b : ℕ) → Told (a < b) (ltb a b)
-ltb_told a b = elim (leb_tells (suc a) b) [ inl x ↦ rw x.0 (yes (omega arith)) | inr x ↦ rw x.0 (no (λ h. omega arith)) ]
+pub no : {P : Type 0} → ¬ P → Decides false P
+no n = (λ e. absurd (true≢false (sym e)), λ p. absurd (n p))
 
 pub tells_like : {A : Type 0} {H : A → Type 0} {o : Option A} (K : A → Type 0) → ((a : A) → H a → K a) → ((a : A) → K a → H a) → Tells H o → Tells K o
 tells_like K f g (none t) = none (λ a k. t a (g a k))
 tells_like K f g (found t one) = found (f _ t) (λ b k. one b (g b k))
 
-pub tells_if : {A : Type 0} {P : Type 0} {b : Bool} (a : A) → Told P b → Tells (λ c. P × (c ≡ a)) (provided b a)
-tells_if a (yes t) = found (t, refl) (λ b x. x.1)
-tells_if a (no t) = none (λ b x. t x.0)
+pub tells_if : {A : Type 0} {P : Type 0} (b : Bool) (a : A) → Decides b P → Tells (λ c. P × (c ≡ a)) (then_some b a)
+tells_if true a d = found (d.0 refl, refl) (λ b x. x.1)
+tells_if false a d = none (λ b x. not_from_Decides false d refl x.0)
 
-pub tells_cond : {A : Type 0} {P : Type 0} {K : A → Type 0} {b : Bool} {o : Option A} → Told P b → Tells K o → Tells (λ c. P × K c) (cond b o None)
-tells_cond (yes t) (none k) = none (λ a x. k a x.1)
-tells_cond (yes t) (found k one) = found (t, k) (λ b x. one b x.1)
-tells_cond (no t) k = none (λ a x. t x.0)
+pub tells_unit : {P : Type 0} (b : Bool) → Decides b P → Tells (λ (u : Unit {0}). P) (then_some b tt)
+tells_unit b d = tells_like _ (λ u x. x.0) (λ u p. (p, refl)) (tells_if b tt d)
 
-pub tells_maybe : {A B : Type 0} {H : A → Type 0} {o : Option A} (f : A → B) → Tells H o → Tells (λ b. (a : A) × H a × (b ≡ f a)) (maybe f o)
+pub tells_cond : {A : Type 0} {P : Type 0} {K : A → Type 0} (b : Bool) {o : Option A} → Decides b P → Tells K o → Tells (λ c. P × K c) (cond b o None)
+tells_cond true d (none k) = none (λ a x. k a x.1)
+tells_cond true d (found k one) = found (d.0 refl, k) (λ b x. one b x.1)
+tells_cond false d k = none (λ a x. not_from_Decides false d refl x.0)
+
+pub tells_maybe : {A B : Type 0} {H : A → Type 0} {o : Option A} (f : A → B) → Tells H o → Tells (λ b. (a : A) × H a × (b ≡ f a)) (option_map f o)
 tells_maybe f (none t) = none (λ b x. t x.0 x.1)
 tells_maybe f (found {a} t one) = found (a, t, refl) (λ b x. rw (← (one x.0 x.1)) x.2)
 
-pub tells_bind : {A B : Type 0} {H : A → Type 0} {o : Option A} (K : A → B → Type 0) (f : A → Option B) → Tells H o → ((a : A) → Tells (K a) (f a)) → Tells (Pair H K) (bind o f)
+pub tells_bind : {A B : Type 0} {H : A → Type 0} {o : Option A} (K : A → B → Type 0) (f : A → Option B) → Tells H o → ((a : A) → Tells (K a) (f a)) → Tells (Pair H K) (option_and_then f o)
 tells_bind K f (none t) g = none (λ b x. t x.0 x.1)
 tells_bind {A} {B} {H} K f (found {a} t one) g = go (g a)
   where
@@ -56,42 +44,36 @@ tells_bind {A} {B} {H} K f (found {a} t one) g = go (g a)
     go (none k) = none (λ b x. k b (subst (λ y. K y b) (one x.0 x.1) x.2))
     go (found k only) = found (a, t, k) (λ b x. only b (subst (λ y. K y b) (one x.0 x.1) x.2))
 
-pub same_word_told : (v w : Word) → Told (v ≡ w) (same_word v w)
-same_word_told [] [] = yes refl
-same_word_told [] (b ∷ w) = no (λ e. grind arith)
-same_word_told (a ∷ v) [] = no (λ e. grind arith)
-same_word_told (a ∷ v) (b ∷ w) = told_like (λ x. rw (x.0, x.1) refl) (λ e. (cc, cc)) (told_and (eqb_told a b) (same_word_told v w))
-
-pub same_plain_told : (k l : Plain) → Told (k ≡ l) (same_plain k l)
-same_plain_told int int = yes refl
-same_plain_told int byte = no (λ e. grind arith)
-same_plain_told byte int = no (λ e. grind arith)
-same_plain_told byte byte = yes refl
+pub same_plain_decides : (k l : Plain) → Decides (same_plain k l) (k ≡ l)
+same_plain_decides int int = yes refl
+same_plain_decides int byte = no (λ e. grind arith)
+same_plain_decides byte int = no (λ e. grind arith)
+same_plain_decides byte byte = yes refl
 
 mutual
-  pub same_mode_told : (m k : Mode) → Told (m ≡ k) (same_mode m k)
-  same_mode_told (plain k) (plain l) = told_like (λ e. ap plain e) (λ e. cc) (same_plain_told k l)
-  same_mode_told (plain k) (ref l) = no (λ e. grind arith)
-  same_mode_told (plain k) (ref_record r) = no (λ e. grind arith)
-  same_mode_told (plain k) (ref_array f) = no (λ e. grind arith)
-  same_mode_told (ref k) (plain l) = no (λ e. grind arith)
-  same_mode_told (ref k) (ref l) = told_like (λ e. ap ref e) (λ e. cc) (same_plain_told k l)
-  same_mode_told (ref k) (ref_record r) = no (λ e. grind arith)
-  same_mode_told (ref k) (ref_array f) = no (λ e. grind arith)
-  same_mode_told (ref_record r) (plain l) = no (λ e. grind arith)
-  same_mode_told (ref_record r) (ref l) = no (λ e. grind arith)
-  same_mode_told (ref_record r) (ref_record s) = told_like (λ e. ap ref_record e) (λ e. cc) (same_word_told r s)
-  same_mode_told (ref_record r) (ref_array f) = no (λ e. grind arith)
-  same_mode_told (ref_array d) (plain l) = no (λ e. grind arith)
-  same_mode_told (ref_array d) (ref l) = no (λ e. grind arith)
-  same_mode_told (ref_array d) (ref_record s) = no (λ e. grind arith)
-  same_mode_told (ref_array d) (ref_array f) = told_like (λ e. ap ref_array e) (λ e. cc) (same_element_told d f)
+  pub same_mode_decides : (m k : Mode) → Decides (same_mode m k) (m ≡ k)
+  same_mode_decides (plain k) (plain l) = Decides-like _ (λ e. ap plain e) (λ e. cc) (same_plain_decides k l)
+  same_mode_decides (plain k) (ref l) = no (λ e. grind arith)
+  same_mode_decides (plain k) (ref_record r) = no (λ e. grind arith)
+  same_mode_decides (plain k) (ref_array f) = no (λ e. grind arith)
+  same_mode_decides (ref k) (plain l) = no (λ e. grind arith)
+  same_mode_decides (ref k) (ref l) = Decides-like _ (λ e. ap ref e) (λ e. cc) (same_plain_decides k l)
+  same_mode_decides (ref k) (ref_record r) = no (λ e. grind arith)
+  same_mode_decides (ref k) (ref_array f) = no (λ e. grind arith)
+  same_mode_decides (ref_record r) (plain l) = no (λ e. grind arith)
+  same_mode_decides (ref_record r) (ref l) = no (λ e. grind arith)
+  same_mode_decides (ref_record r) (ref_record s) = Decides-like _ (λ e. ap ref_record e) (λ e. cc) (bytes_eq-Decides r s)
+  same_mode_decides (ref_record r) (ref_array f) = no (λ e. grind arith)
+  same_mode_decides (ref_array d) (plain l) = no (λ e. grind arith)
+  same_mode_decides (ref_array d) (ref l) = no (λ e. grind arith)
+  same_mode_decides (ref_array d) (ref_record s) = no (λ e. grind arith)
+  same_mode_decides (ref_array d) (ref_array f) = Decides-like _ (λ e. ap ref_array e) (λ e. cc) (same_element_decides d f)
 
-  pub same_element_told : (d f : Element) → Told (d ≡ f) (same_element d f)
-  same_element_told (simple m) (simple k) = told_like (λ e. ap simple e) (λ e. cc) (same_mode_told m k)
-  same_element_told (simple m) (records r) = no (λ e. grind arith)
-  same_element_told (records r) (simple k) = no (λ e. grind arith)
-  same_element_told (records r) (records s) = told_like (λ e. ap records e) (λ e. cc) (same_word_told r s)
+  pub same_element_decides : (d f : Element) → Decides (same_element d f) (d ≡ f)
+  same_element_decides (simple m) (simple k) = Decides-like _ (λ e. ap simple e) (λ e. cc) (same_mode_decides m k)
+  same_element_decides (simple m) (records r) = no (λ e. grind arith)
+  same_element_decides (records r) (simple k) = no (λ e. grind arith)
+  same_element_decides (records r) (records s) = Decides-like _ (λ e. ap records e) (λ e. cc) (bytes_eq-Decides r s)
 
 -- the plain mode offered, and the reference offered
 abbrev Numeric : Thing → Plain → Type 0
@@ -171,18 +153,18 @@ ref_tells t = go t (ref_of t) refl
     go t None e = none (λ m x. some_none (ref_only x.1 x.2) e)
     go t (Some m) e = found (back t m e) (λ k x. some_one e (ref_only x.1 x.2))
 
-widens_told : (k l : Plain) → Told (Widens k l) (widens k l)
-widens_told int int = yes alike
-widens_told int byte = no (λ w. elim w [ ])
-widens_told byte int = yes wider
-widens_told byte byte = yes alike
+widens_decides : (k l : Plain) → Decides (widens k l) (Widens k l)
+widens_decides int int = yes alike
+widens_decides int byte = no (λ w. elim w [ ])
+widens_decides byte int = yes wider
+widens_decides byte byte = yes alike
 
 wanted_back : {m c : Mode} {t : Thing} → Fits (mode m) t c → Reference m → Pair (Refers t) (λ k c. (k ≡ m) × (c ≡ m)) c
 wanted_back (widened o w) r = absurd r
 wanted_back (wanted {m = m} {n = n} o k) r = (m, (n, o, k), (refl, refl))
 
 fit_ref_tells : (m : Mode) (t : Thing) → Reference m → Tells (Fits (mode m) t) (fit_ref m t)
-fit_ref_tells m t r = tells_like _ to back (tells_bind (λ k c. (k ≡ m) × (c ≡ m)) _ (ref_tells t) (λ k. tells_if m (same_mode_told k m)))
+fit_ref_tells m t r = tells_like _ to back (tells_bind (λ k c. (k ≡ m) × (c ≡ m)) _ (ref_tells t) (λ k. tells_if _ m (same_mode_decides k m)))
   where
     to : (c : Mode) → Pair (Refers t) (λ k c. (k ≡ m) × (c ≡ m)) c → Fits (mode m) t c
     to c x = rw x.2.1 (wanted (rw x.2.0 at x.1.1) r)
@@ -191,7 +173,7 @@ fit_ref_tells m t r = tells_like _ to back (tells_bind (λ k c. (k ≡ m) × (c 
     back c f = wanted_back f r
 
 mode_tells : (m : Mode) (t : Thing) → Tells (Fits (mode m) t) (fit_mode m t)
-mode_tells (plain l) t = tells_like _ to back (tells_bind (λ k c. Widens k l × (c ≡ plain l)) _ (number_tells t) (λ k. tells_if (plain l) (widens_told k l)))
+mode_tells (plain l) t = tells_like _ to back (tells_bind (λ k c. Widens k l × (c ≡ plain l)) _ (number_tells t) (λ k. tells_if _ (plain l) (widens_decides k l)))
   where
     to : (c : Mode) → Pair (Numeric t) (λ k c. Widens k l × (c ≡ plain l)) c → Fits (mode (plain l)) t c
     to c x = rw x.2.1 (widened x.1.1 x.2.0)

@@ -1,12 +1,16 @@
 -- The stages with one number, and their order. Assumes nothing.
-use Rattle.std.proofs.Common.{◌≡◌, ℕ, ◌+◌, ◌<◌, ◌≤◌, Bool, cond, ◌⊎◌, List, [], ◌∷◌, ◌++◌, Some, None, Ok, Err, Option, Result, sym, refl, ap, ◌∙◌, inl, inr, arith}
+use Rattle.std.proofs.Common.{◌≡◌, ℕ, ◌+◌, ◌<◌, ◌≤◌, Bool, true, false, cond, ◌⊎◌, List, [], ◌∷◌, ◌++◌, Some, None, Ok, Err, Option, Result, sym, refl, ap, ◌∙◌, inl, inr, arith}
+use Rattle.std.specs.Prelude.{flat_map, option_to_list, slice_get, ltb}
+use Rattle.std.specs.Bool.{Decides}
+use Rattle.std.proofs.lemmas.Bool.{ltb-true, ltb-false}
+use Rattle.std.proofs.lemmas.Bool.Decides.{not_from_Decides}
+use Rattle.std.proofs.lemmas.Slice.Eq.{bytes_eq-Decides}
 use Rattle.statics.specs.declared.Refusal.{Refusal}
 use Rattle.statics.specs.declared.Refusal.TheVariants.{DeclaredTwice, WrongName, Misfit, NoValue, TooManyPlaces, TooManyLocals}
 use Rattle.statics.specs.Refusals.{place_of, shift}
 use Rattle.grammar.specs.Trees.{Module}
 use Rattle.statics.specs.Laws.{Wrongs, At, Wherever, Clean, Any, Earliest, Verdict}
 use Rattle.statics.specs.Scopes.{Text}
-use Rattle.statics.specs.Expressions.{nth}
 use Rattle.statics.specs.Written.{gather}
 use Rattle.statics.specs.Modules.{module_wrongs}
 use Rattle.statics.specs.DeclaredTwice.{scopes, Twice, twice_wrongs}
@@ -16,9 +20,8 @@ use Rattle.statics.specs.Stages.{Staged, Static, Moved, all_moved, moved}
 use Rattle.statics.specs.Order.{InModule}
 use Rattle.statics.specs.JudgeExpressions.{then}
 use Rattle.statics.specs.JudgeModules.{judge_module}
-use Rattle.statics.specs.JudgeLimits.{report, lower, least, flatten, alike_in, doubles, passing, option_list, beyond, judge_twice, judge_space, judge_locals, judge_static}
-use Rattle.statics.proofs.Decide.{Told, yes, no, Tells, found, none, verdict}
-use Rattle.statics.proofs.Fit.{ltb_told, same_word_told}
+use Rattle.statics.specs.JudgeLimits.{report, lower, least, alike_in, doubles, passing, beyond, judge_twice, judge_space, judge_locals, judge_static}
+use Rattle.statics.proofs.Decide.{Tells, found, none, verdict}
 use Rattle.statics.proofs.Modules.{module_right}
 
 abbrev Among : ℕ → List ℕ → Type 0
@@ -37,14 +40,14 @@ any_parts P (a ∷ l) k (inl x) = inl (inl x)
 any_parts P (a ∷ l) k (inr x) = elim (any_parts P l k x) [ inl y ↦ inl (inr y) | inr y ↦ inr y ]
 
 -- each of what f lists of some a, where P a says the same
-to_flat : {A : Type 0} (P : A → ℕ → Type 0) (f : A → List ℕ) → ((a : A) (p : ℕ) → P a p → Among p (f a)) → (l : List A) (p : ℕ) → Any (λ a. P a p) l → Among p (flatten f l)
+to_flat : {A : Type 0} (P : A → ℕ → Type 0) (f : A → List ℕ) → ((a : A) (p : ℕ) → P a p → Among p (f a)) → (l : List A) (p : ℕ) → Any (λ a. P a p) l → Among p (flat_map f l)
 to_flat P f g [] p x = x
-to_flat P f g (a ∷ l) p (inl x) = any_more _ (f a) (flatten f l) (inl (g a p x))
-to_flat P f g (a ∷ l) p (inr x) = any_more _ (f a) (flatten f l) (inr (to_flat P f g l p x))
+to_flat P f g (a ∷ l) p (inl x) = any_more _ (f a) (flat_map f l) (inl (g a p x))
+to_flat P f g (a ∷ l) p (inr x) = any_more _ (f a) (flat_map f l) (inr (to_flat P f g l p x))
 
-of_flat : {A : Type 0} (P : A → ℕ → Type 0) (f : A → List ℕ) → ((a : A) (p : ℕ) → Among p (f a) → P a p) → (l : List A) (p : ℕ) → Among p (flatten f l) → Any (λ a. P a p) l
+of_flat : {A : Type 0} (P : A → ℕ → Type 0) (f : A → List ℕ) → ((a : A) (p : ℕ) → Among p (f a) → P a p) → (l : List A) (p : ℕ) → Among p (flat_map f l) → Any (λ a. P a p) l
 of_flat P f g [] p x = x
-of_flat P f g (a ∷ l) p x = elim (any_parts _ (f a) (flatten f l) x) [ inl y ↦ inl (g a p y) | inr y ↦ inr (of_flat P f g l p y) ]
+of_flat P f g (a ∷ l) p x = elim (any_parts _ (f a) (flat_map f l) x) [ inl y ↦ inl (g a p y) | inr y ↦ inr (of_flat P f g l p y) ]
 
 -- the least
 pub data Least (l : List ℕ) : Option ℕ → Type 0 where
@@ -57,14 +60,11 @@ least_is (a ∷ l) = go (least_is l)
   where
     go : {o : Option ℕ} → Least l o → Least (a ∷ l) (Some (lower a o))
     go (nowhere n) = there (inl refl) (λ p x. elim x [ inl e ↦ omega arith | inr y ↦ absurd (n p y) ])
-    go (there {a = b} h low) = pick (ltb_told a b)
+    go (there {a = b} h low) = pick (ltb a b) refl
       where
-        pick : {t : Bool} → Told (a < b) t → Least (a ∷ l) (Some (cond t a b))
-        pick (yes lt) = there (inl refl) (λ p x. elim x [ inl e ↦ omega arith | inr y ↦ let k = low p y in omega arith ])
-        pick (no nl) = there (inr h) (λ p x. elim x [ inl e ↦ let k = below nl in omega arith | inr y ↦ low p y ])
-          where
-            below : (a < b → ⊥) → b ≤ a
-            below f = grind arith
+        pick : (t : Bool) → ltb a b ≡ t → Least (a ∷ l) (Some (cond t a b))
+        pick true e = let lt = ltb-true a b e in there (inl refl) (λ p x. elim x [ inl q ↦ omega arith | inr y ↦ let k = low p y in omega arith ])
+        pick false e = let le = ltb-false a b e in there (inr h) (λ p x. elim x [ inl q ↦ omega arith | inr y ↦ low p y ])
 
 at_or_after : (a p : ℕ) → a ≤ p → (a < p) ⊎ (a ≡ p)
 at_or_after a p h = grind arith
@@ -92,22 +92,22 @@ Alike x n l p = Any (λ q. (p ≡ q) × (x.word q ≡ x.word n)) l
 
 alike_to : (x : Text) (n : ℕ) (l : List ℕ) (p : ℕ) → Alike x n l p → Among p (alike_in x n l)
 alike_to x n [] p h = h
-alike_to x n (q ∷ l) p h = go (same_word_told (x.word q) (x.word n)) (alike_to x n l p) h
+alike_to x n (q ∷ l) p h = go _ (bytes_eq-Decides (x.word q) (x.word n)) (alike_to x n l p) h
   where
-    go : {b : Bool} → Told (x.word q ≡ x.word n) b → (Alike x n l p → Among p (alike_in x n l)) → Alike x n (q ∷ l) p → Among p (cond b (q ∷ alike_in x n l) (alike_in x n l))
-    go (yes e) f (inl y) = inl y.0
-    go (yes e) f (inr y) = inr (f y)
-    go (no e) f (inl y) = absurd (e y.1)
-    go (no e) f (inr y) = f y
+    go : (b : Bool) → Decides b (x.word q ≡ x.word n) → (Alike x n l p → Among p (alike_in x n l)) → Alike x n (q ∷ l) p → Among p (cond b (q ∷ alike_in x n l) (alike_in x n l))
+    go true d f (inl y) = inl y.0
+    go true d f (inr y) = inr (f y)
+    go false d f (inl y) = absurd (not_from_Decides false d refl y.1)
+    go false d f (inr y) = f y
 
 alike_of : (x : Text) (n : ℕ) (l : List ℕ) (p : ℕ) → Among p (alike_in x n l) → Alike x n l p
 alike_of x n [] p h = h
-alike_of x n (q ∷ l) p h = go (same_word_told (x.word q) (x.word n)) (alike_of x n l p) h
+alike_of x n (q ∷ l) p h = go _ (bytes_eq-Decides (x.word q) (x.word n)) (alike_of x n l p) h
   where
-    go : {b : Bool} → Told (x.word q ≡ x.word n) b → (Among p (alike_in x n l) → Alike x n l p) → Among p (cond b (q ∷ alike_in x n l) (alike_in x n l)) → Alike x n (q ∷ l) p
-    go (yes e) f (inl y) = inl (y, e)
-    go (yes e) f (inr y) = inr (f y)
-    go (no e) f y = inr (f y)
+    go : (b : Bool) → Decides b (x.word q ≡ x.word n) → (Among p (alike_in x n l) → Alike x n l p) → Among p (cond b (q ∷ alike_in x n l) (alike_in x n l)) → Alike x n (q ∷ l) p
+    go true d f (inl y) = inl (y, d.0 refl)
+    go true d f (inr y) = inr (f y)
+    go false d f y = inr (f y)
 
 doubles_to : (x : Text) (l : List ℕ) (p : ℕ) → Twice x l p → Among p (doubles x l)
 doubles_to x [] p h = h
@@ -124,33 +124,30 @@ twice_right x m = least_verdict DeclaredTwice (λ p. refl) _ _ (to_flat (Twice x
 -- Places of data and strings.
 passing_tells : (limit used : ℕ) (cs : List Charge) → Tells (Passes limit used cs) (passing limit used cs)
 passing_tells limit used [] = none (λ p x. x)
-passing_tells limit used (c ∷ cs) = go (ltb_told limit (used + c.amount)) (passing_tells limit (used + c.amount) cs)
+passing_tells limit used (c ∷ cs) = go (ltb limit (used + c.amount)) refl (passing_tells limit (used + c.amount) cs)
   where
-    go : {b : Bool} {o : Option ℕ} → Told (limit < used + c.amount) b → Tells (Passes limit (used + c.amount) cs) o → Tells (Passes limit used (c ∷ cs)) (cond b (Some c.item) o)
-    go (yes h) t = found (inl (h, refl)) (λ p x. elim x [ inl y ↦ y.1 | inr y ↦ let z : ⊥ = omega (arith, y.0) in absurd z ])
-    go (no h) (none t) = none (λ p x. elim x [ inl y ↦ h y.0 | inr y ↦ t p y.1 ])
-    go (no h) (found t one) = found (inr (below h, t)) (λ p x. elim x [ inl y ↦ absurd (h y.0) | inr y ↦ one p y.1 ])
-      where
-        below : (limit < used + c.amount → ⊥) → used + c.amount ≤ limit
-        below f = grind arith
+    go : (b : Bool) {o : Option ℕ} → ltb limit (used + c.amount) ≡ b → Tells (Passes limit (used + c.amount) cs) o → Tells (Passes limit used (c ∷ cs)) (cond b (Some c.item) o)
+    go true e t = let h = ltb-true limit (used + c.amount) e in found (inl (h, refl)) (λ p x. elim x [ inl y ↦ y.1 | inr y ↦ absurd (let z : ⊥ = omega (arith, y.0) in z) ])
+    go false e (none t) = let h = ltb-false limit (used + c.amount) e in none (λ p x. elim x [ inl y ↦ omega (arith, y.0) | inr y ↦ t p y.1 ])
+    go false e (found t one) = let h = ltb-false limit (used + c.amount) e in found (inr (h, t)) (λ p x. elim x [ inl y ↦ absurd (let z : ⊥ = omega (arith, y.0) in z) | inr y ↦ one p y.1 ])
 
 pub space_right : (x : Text) (m : Module) → Verdict (Clean (space_wrongs x m)) (space_wrongs x m) (judge_space x m)
 space_right x m = one_verdict TooManyPlaces _ (passing_tells 4096 0 (charges x m))
 
 -- Locals.
-option_to : (o : Option ℕ) (p : ℕ) → o ≡ Some p → Among p (option_list o)
+option_to : (o : Option ℕ) (p : ℕ) → o ≡ Some p → Among p (option_to_list o)
 option_to None p e = let z : ⊥ = grind arith in absurd z
 option_to (Some q) p e = inl (let d : q ≡ p = cc in sym d)
 
-option_of : (o : Option ℕ) (p : ℕ) → Among p (option_list o) → o ≡ Some p
+option_of : (o : Option ℕ) (p : ℕ) → Among p (option_to_list o) → o ≡ Some p
 option_of None p x = absurd x
 option_of (Some q) p (inl e) = ap Some (sym e)
 option_of (Some q) p (inr x) = absurd x
 
 pub locals_right : (x : Text) (m : Module) → Verdict (Clean (locals_wrongs x m)) (locals_wrongs x m) (judge_locals x m)
 locals_right x m =
-    least_verdict TooManyLocals (λ p. refl) _ _ (to_flat Beyond beyond (λ a p e. option_to (nth a.names a.most) p e) (gather (moditem_allowances x) m))
-    (of_flat Beyond beyond (λ a p h. option_of (nth a.names a.most) p h) (gather (moditem_allowances x) m))
+    least_verdict TooManyLocals (λ p. refl) _ _ (to_flat Beyond beyond (λ a p e. option_to (slice_get a.names a.most) p e) (gather (moditem_allowances x) m))
+    (of_flat Beyond beyond (λ a p h. option_of (slice_get a.names a.most) p h) (gather (moditem_allowances x) m))
 
 -- Stages.
 stage : (W : Wrongs) (rest : List Wrongs) (r s : Result (Unit {0}) Refusal) → Verdict (Clean W) W r → Staged rest s → Staged (W ∷ rest) (then r (λ u. s))

@@ -1,5 +1,7 @@
 -- Blocks and statements are judged right. Assumes nothing.
-use Rattle.std.proofs.Common.{◌≡◌, ℕ, ◌+◌, ◌≤◌, Bool, ◌⊎◌, length, Some, None, Option, Result, sym, refl, subst, inl, inr, arith}
+use Rattle.std.proofs.Common.{◌≡◌, ℕ, ◌+◌, ◌≤◌, Bool, true, false, ◌⊎◌, length, Some, None, Err, Option, Result, ok_or, sym, refl, subst, inl, inr, arith}
+use Rattle.std.specs.Bool.{Decides, then_some}
+use Rattle.std.proofs.lemmas.Bool.Decides.{not_from_Decides}
 use Rattle.statics.specs.declared.Refusal.{Refusal}
 use Rattle.statics.specs.Refusals.{place_of}
 use Rattle.statics.specs.declared.Refusal.TheVariants.{Misfit, NoValue}
@@ -13,15 +15,15 @@ use Rattle.statics.specs.Expressions.{Form, Gives, Off, expr, a_variable, count,
 use Rattle.statics.specs.Written.{mode_of, record_name, written, written_element, list_names}
 use Rattle.statics.specs.Statements.{into, Starts, local_item, local_items, local_dec, local_decs, entries, inside, ready_inside, aim, aimed, Joined, targets, Silent, a_body, sequence, statement, arms}
 use Rattle.statics.specs.Order.{Span, In, InVariable, InMany, InCondition, InMode, InElement, InName, InInit, InLocal, InLocals, InDestination, InBody, InSequence, InStatement, InArms}
-use Rattle.statics.specs.JudgeExpressions.{then, must, provided, bring, done, shapes, judge, judge_variable, judge_condition}
+use Rattle.statics.specs.JudgeExpressions.{then, same_mode, bring, done, shapes, judge, judge_variable, judge_condition}
 use Rattle.statics.specs.JudgeStatements.{judge_record_name, judge_written, judge_element, judge_into, starts, judge_local_item, judge_local_items, judge_local_dec, judge_local_decs, join, judge_target, judge_targets, silent, judge_body, judge_sequence, judge_statement, judge_arms}
-use Rattle.statics.proofs.Decide.{Told, yes, no, Tells, found, none, Also, Judged, lacking, like, cleaned, wider, chain, alone, two, turn, plainly, next, nothing}
-use Rattle.statics.proofs.Fit.{same_mode_told}
+use Rattle.statics.proofs.Decide.{Tells, found, none, Also, Judged, lacking, like, cleaned, wider, chain, alone, two, turn, plainly, next, nothing}
+use Rattle.statics.proofs.Fit.{same_mode_decides}
 use Rattle.statics.proofs.Names.{look_judged, shapes_tells}
 use Rattle.statics.proofs.Expressions.{Right, Checks, brought, front_in, spot_in, front_variable_in, exprs_le, many_le, condition_le, expr_right, variable_right, args_right, args_inner, called_right, condition_right}
 
 -- a check that asks for something of the one element
-pub asked : (lo hi : ℕ) (f : Refusal) (K : Unit {0} → Type 0) (o : Option (Unit {0})) → Span lo hi (place_of f) → Tells K o → Checks lo hi (Lacks K f) (must f o)
+pub asked : (lo hi : ℕ) (f : Refusal) (K : Unit {0} → Type 0) (o : Option (Unit {0})) → Span lo hi (place_of f) → Tells K o → Checks lo hi (Lacks K f) (ok_or o f)
 asked lo hi f K o i t = cleaned (lacking lo hi f i t)
 
 pub brought_check : (Γ : Env) (m : Mode) (e : Expr 5) (lo hi : ℕ) → In lo e hi → Checks lo hi (Off (expr Γ e) (spot e) (mode m)) (then (bring (mode m) (spot e) (judge Γ e)) done)
@@ -115,21 +117,21 @@ local_decs_right Γ (locals ls l) lo hi i =
 -- Destinations.
 joined_to : (a : Option Mode) (m : Mode) → Joined a m (join a m)
 joined_to None m = refl
-joined_to (Some k) m = go (same_mode_told k m)
+joined_to (Some k) m = go (same_mode k m) (same_mode_decides k m)
   where
-    go : {b : Bool} → Told (k ≡ m) b → ((k ≡ m) × (provided b k ≡ Some k)) ⊎ ((k ≡ m → ⊥) × (provided b k ≡ None))
-    go (yes e) = inl (e, refl)
-    go (no e) = inr (e, refl)
+    go : (b : Bool) → Decides b (k ≡ m) → ((k ≡ m) × (then_some b k ≡ Some k)) ⊎ ((k ≡ m → ⊥) × (then_some b k ≡ None))
+    go true d = inl (d.0 refl, refl)
+    go false d = inr (not_from_Decides false d refl, refl)
 
 joined_back : (a : Option Mode) (m : Mode) (c : Option Mode) → Joined a m c → c ≡ join a m
 joined_back None m c x = x
-joined_back (Some k) m c x = go (same_mode_told k m) x
+joined_back (Some k) m c x = go (same_mode k m) (same_mode_decides k m) x
   where
-    go : {b : Bool} → Told (k ≡ m) b → Joined (Some k) m c → c ≡ provided b k
-    go (yes e) (inl y) = y.1
-    go (yes e) (inr y) = absurd (y.0 e)
-    go (no e) (inl y) = absurd (e y.0)
-    go (no e) (inr y) = y.1
+    go : (b : Bool) → Decides b (k ≡ m) → Joined (Some k) m c → c ≡ then_some b k
+    go true d (inl y) = y.1
+    go true d (inr y) = absurd (y.0 (d.0 refl))
+    go false d (inl y) = absurd (not_from_Decides false d refl y.0)
+    go false d (inr y) = y.1
 
 aimed_in : (d : Destination) (lo hi : ℕ) → InDestination lo d hi → InVariable lo (aimed d) hi
 aimed_in (tree.place v) lo hi i = i
@@ -172,7 +174,7 @@ front_destinations_in (more ds d) lo hi i =
     (f.0, omega arith)
 
 -- at p in any case
-pub refusing : (lo hi : ℕ) (f : Refusal) → Span lo hi (place_of f) → Judged lo hi (λ (u : Unit {0}). ⊥) (At f) (must f None)
+pub refusing : (lo hi : ℕ) (f : Refusal) → Span lo hi (place_of f) → Judged lo hi (λ (u : Unit {0}). ⊥) (At f) (Err f)
 refusing lo hi f i = like _ _ (λ u x. x) (λ u x. x) (λ g w. w.1) (λ g w. ((λ u x. x), w)) (lacking lo hi f i (none (λ u x. x)))
 
 into_right : (Γ : Env) (o : Option Mode) (p : ℕ) (e : Expr 5) (lo mid hi : ℕ) → lo ≤ mid → Span lo hi p → In mid e hi → Checks lo hi (into o p (expr Γ e) (spot e)) (judge_into o p (judge Γ e) (spot e))

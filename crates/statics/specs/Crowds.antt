@@ -1,11 +1,10 @@
 -- The parameters and locals of a procedure. Assumes nothing.
-use Rattle.std.specs.Prelude.{◌≡◌, ℕ, List, [], ◌∷◌, ◌++◌, map, Some}
+use Rattle.std.specs.Prelude.{◌≡◌, ℕ, List, [], ◌∷◌, ◌++◌, map, Some, slice_get}
 use Rattle.statics.specs.declared.Refusal.TheVariants.{TooManyLocals}
 use Rattle.grammar.specs.Trees.{given, Body, body, Sequence, single, sequel, Statement, dummy, block, assign, invoke, invoke_on, branch, branch_else, repeat, loop, return, return_with, Arms, when, elsewhen, Brick, store, procedure, Moditem, blank, external_procs, external_store, own, entry, Module}
 use Rattle.grammar.specs.Trees as tree
 use Rattle.statics.specs.Laws.{Wrongs, Wherever, Any}
 use Rattle.statics.specs.Scopes.{Text}
-use Rattle.statics.specs.Expressions.{nth}
 use Rattle.statics.specs.Written.{gather, items}
 use Rattle.statics.specs.Statements.{entries}
 use Rattle.statics.specs.Modules.{parameters}
@@ -57,7 +56,7 @@ moditem_allowances x (entry b) = brick_allowances x b
 
 -- p is the first name beyond
 abbrev pub Beyond : Allowance → ℕ → Type 0
-Beyond a p = nth a.names a.most ≡ Some p
+Beyond a p = slice_get a.names a.most ≡ Some p
 
 abbrev pub locals_wrongs : Text → Module → Wrongs
 locals_wrongs x m = Wherever TooManyLocals (λ p. Any (λ a. Beyond a p) (gather (moditem_allowances x) m))

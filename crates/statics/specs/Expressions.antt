@@ -1,5 +1,5 @@
 -- The rules of expressions and conditions: what a form stands for, and what is wrong with it. Assumes nothing.
-use Rattle.std.specs.Prelude.{◌≡◌, ℕ, zero, suc, Bool, true, false, cond, ◌&&◌, List, [], ◌∷◌, length, Some, None, Option, nat_lt}
+use Rattle.std.specs.Prelude.{◌≡◌, ℕ, suc, Bool, true, false, cond, ◌&&◌, List, [], length, Some, None, Option, slice_get, nat_lt}
 use Rattle.statics.specs.declared.Refusal.TheVariants.{WrongName, Misfit}
 use Rattle.grammar.specs.Trees.{Dyadic, times, divide, modulo, land, lor, nev, plus, minus, Monadic, positive, negative, absolute, complement, narrow, size, Expr, term, up, dyadic, Term, monadic, primary, Primary, integer, text, variable, call, call_on, paren, Variable, name, element, component, Exprs, first, comma, Comparator, equal, unequal, less, at_most, greater, at_least, same_place, other_place, Comparison, compare, Condition, Many, one, more}
 use Rattle.statics.specs.Modes.{int, byte, Mode, plain, ref, ref_record, ref_array, simple, INT, BYTE, Thing, value, Need, mode, number, reference, elements, components, Fits, subscript, referred_record}
@@ -107,11 +107,6 @@ altered o a s = record {
 }
 
 -- The expressions of a call: one that has a parameter is brought to its mode, a further one to nothing.
-abbrev pub nth : {A : Type 0} → List A → ℕ → Option A
-nth [] k = None
-nth (m ∷ ms) zero = Some m
-nth (m ∷ ms) (suc k) = nth ms k
-
 abbrev pub passed : Form → ℕ → Option Mode → Wrongs
 passed x s None = x.wrong
 passed x s (Some m) = Off x s (mode m)
@@ -138,7 +133,7 @@ called Γ n W k R = named Γ n Runs (W []) (applied n W k R)
 -- A name with one expression in brackets: an element or a call, by what the name is.
 abbrev pub headed : ℕ → Form → ℕ → Head → Form
 headed n e z (thing t) = subscripted (fixed t) n e z
-headed n e z (signature s) = applied n (λ ms. passed e z (nth ms 0)) 1 Yields s
+headed n e z (signature s) = applied n (λ ms. passed e z (slice_get ms 0)) 1 Yields s
 
 abbrev pub bracketed : Env → Variable → Form → Form → ℕ → Form
 bracketed Γ (name n) b e z = named Γ n Heads e.wrong (headed n e z)
@@ -172,7 +167,7 @@ abbrev mutual
   a_primary Γ (text i) = fixed string_thing
   a_primary Γ (variable v) = a_use Γ v
   a_primary Γ (call n i) = called Γ n (λ ms. Never) 0 Yields
-  a_primary Γ (call_on n i es e) = called Γ n (λ ms. Both (args Γ ms es) (passed (expr Γ e) (spot e) (nth ms (count es)))) (suc (count es)) Yields
+  a_primary Γ (call_on n i es e) = called Γ n (λ ms. Both (args Γ ms es) (passed (expr Γ e) (spot e) (slice_get ms (count es)))) (suc (count es)) Yields
   a_primary Γ (paren i e) = expr Γ e
 
   -- a variable, or a call with one expression
@@ -187,8 +182,8 @@ abbrev mutual
   a_variable Γ (component v c) = selected Γ (a_variable Γ v) (front_variable v) c
 
   pub args : Env → List Mode → Exprs → Wrongs
-  args Γ ms (first e) = passed (expr Γ e) (spot e) (nth ms 0)
-  args Γ ms (comma es e) = Both (args Γ ms es) (passed (expr Γ e) (spot e) (nth ms (count es)))
+  args Γ ms (first e) = passed (expr Γ e) (spot e) (slice_get ms 0)
+  args Γ ms (comma es e) = Both (args Γ ms es) (passed (expr Γ e) (spot e) (slice_get ms (count es)))
 
 -- Comparisons: of INTs, of two BYTEs or else INTs, or of references of one mode.
 abbrev pub compared : Comparator → Need

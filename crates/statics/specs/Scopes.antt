@@ -1,13 +1,11 @@
 -- What a name means. Assumes nothing.
-use Rattle.std.specs.Prelude.{◌≡◌, ℕ, ◌+◌, ◌<◌, Bool, true, false, cond, ◌&&◌, List, [], ◌∷◌, ◌++◌, length, get_or, Option, ◌==◌, slice_index_or}
+use Rattle.std.specs.Prelude.{◌≡◌, ℕ, ◌+◌, ◌<◌, Bool, true, false, List, [], ◌++◌, map, filter, length, get_or, Option, slice_index_or}
+use Rattle.std.specs.Str.{bytes_eq}
 use Rattle.statics.specs.Modes.{Word, Mode, INT, Thing, place}
 
 -- whether two words are the same
 abbrev pub same_word : Word → Word → Bool
-same_word [] [] = true
-same_word [] (b ∷ w) = false
-same_word (a ∷ v) [] = false
-same_word (a ∷ v) (b ∷ w) = a == b && same_word v w
+same_word = bytes_eq
 
 -- What items of the text stand for: a name's word, an integer's value, the number of a string's bytes.
 pub record Text : Type 0 where
@@ -121,8 +119,7 @@ Belongs Γ r w i = ((component_at Γ i).owner ≡ r) × ((component_at Γ i).wor
 
 -- the modes of the components of the record mode r, in their order
 abbrev pub record_modes : List Component → Word → List Mode
-record_modes [] r = []
-record_modes (c ∷ cs) r = cond (same_word c.owner r) (c.mode ∷ record_modes cs r) (record_modes cs r)
+record_modes cs r = map (λ c. c.mode) (filter (λ c. same_word c.owner r) cs)
 
 -- the component of the record mode r that has the name at n, as a place
 abbrev pub Selects : Env → Word → ℕ → Thing → Type 0

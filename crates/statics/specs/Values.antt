@@ -1,12 +1,11 @@
 -- The rules of initial values in a data brick. Assumes nothing.
-use Rattle.std.specs.Prelude.{◌≡◌, ℕ, suc, ◌+◌, ◌<◌, Bool, true, false, ◌⊎◌, List, [], ◌∷◌, length, Some, None, Option}
+use Rattle.std.specs.Prelude.{◌≡◌, ℕ, suc, ◌+◌, ◌<◌, Bool, true, false, ◌⊎◌, List, [], ◌∷◌, length, Some, None, Option, slice_get}
 use Rattle.statics.specs.declared.Refusal.{Refusal}
 use Rattle.statics.specs.declared.Refusal.TheVariants.{WrongName, Misfit}
 use Rattle.grammar.specs.Trees.{Value, constant, signed, minus_signed, identifier, string, empty_list, list, Values, only, and, Entry, once, repeated}
 use Rattle.statics.specs.Modes.{Word, int, byte, Mode, plain, ref, ref_record, ref_array, Element, simple, records, BYTE, Thing, value, place, array, structure}
 use Rattle.statics.specs.Laws.{Wrongs, Both, Under, Lacks, Clean}
 use Rattle.statics.specs.Scopes.{Env, Called, Keeps, record_modes}
-use Rattle.statics.specs.Expressions.{nth}
 use Rattle.statics.specs.Statements.{Starts}
 
 -- What a value is to be put into: nothing in particular; a place of a mode; an array of so many elements; a record.
@@ -29,7 +28,7 @@ abbrev pub inner : Env → Want → ℕ → Want
 inner Γ free k = free
 inner Γ (simply m) k = free
 inner Γ (several n e) k = element_want e
-inner Γ (recorded r) k = component_want (nth (record_modes Γ.parts r) k)
+inner Γ (recorded r) k = component_want (slice_get (record_modes Γ.parts r) k)
 
 -- An integer: for INT any, for BYTE one up to 255 without a sign.
 abbrev pub TakesInteger : Want → Bool → ℕ → Unit {0} → Type 0
