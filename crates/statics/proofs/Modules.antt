@@ -12,27 +12,23 @@ use Rattle.statics.specs.declared.Refusal.TheVariants.{WrongName, Misfit, NoValu
 use Rattle.grammar.specs.Trees.{Value, constant, signed, minus_signed, identifier, string, empty_list, list, Values, only, and, Entry, once, repeated, Many, one, more, Opt, Fields, also, Init, given, Dec, variables, arrays, structures, Body, Brick, store, procedure, Moditem, blank, external_procs, external_store, own, entry, Module}
 use Rattle.grammar.specs.Trees as tree
 use Rattle.statics.specs.Modes.{Word, int, byte, Mode, plain, ref, ref_record, ref_array, Element, simple, records, INT, BYTE, Thing}
-use Rattle.statics.specs.Laws.{Wrongs, Lacks}
+use Rattle.statics.specs.Laws.{Wrongs}
 use Rattle.statics.specs.Scopes.{Text, Env, Keeps, Signature, record_modes}
 use Rattle.statics.specs.Expressions.{each}
 use Rattle.statics.specs.Written.{mode_of, element_of}
-use Rattle.statics.specs.Statements.{Starts}
 use Rattle.statics.specs.Values.{Want, free, simply, several, recorded, inner, TakesInteger, address_mode, TakesName, TakesString, TakesList, Repeats, total, how_many, front_value, ThenAsk, initial, listed, an_entry, AllStart, ElementStarts, Valueless}
 use Rattle.statics.specs.Modules.{maybe_mode, modes, maybe_written, modes_written, fields_written, parameters_written, Admitted, data_item, data_dec, in_record, in_procedure, outermost, a_brick, moditem, module_env, module_wrongs}
 use Rattle.statics.specs.Order.{Span, InMany, InMode, InName, InInit, InValue, InValues, InEntry, InDec, InOpt, InFields, InBrick, InModitem, InModule}
 use Rattle.statics.specs.JudgeExpressions.{then, check, keeps, same_mode, judge_each}
-use Rattle.statics.specs.JudgeStatements.{judge_written}
-use Rattle.statics.specs.JudgeModules.{takes_integer, takes_name, takes_string, takes_list, repeats, judge_value, judge_values, judge_entry, is_plain, element_starts, valueless, judge_opt, judge_fields, admitted, judge_data_item, judge_data_dec, judge_brick, judge_moditem, judge_module}
+use Rattle.statics.specs.JudgeStatements.{judge_written, is_plain}
+use Rattle.statics.specs.JudgeModules.{takes_integer, takes_name, takes_string, takes_list, repeats, judge_value, judge_values, judge_entry, element_starts, valueless, judge_opt, judge_fields, admitted, judge_data_item, judge_data_dec, judge_brick, judge_moditem, judge_module}
 use Rattle.statics.proofs.Decide.{lacking, cleaned, wider, chain, next, nothing}
 use Rattle.statics.proofs.Fit.{yes, no, tells_unit, same_mode_decides, same_element_decides}
 use Rattle.statics.proofs.Names.{look_judged, keeps_tells}
 use Rattle.statics.proofs.Expressions.{Checks, each_right, many_le}
-use Rattle.statics.proofs.Statements.{asked, refusing, mode_le, element_le, name_le, init_le, body_le, written_right, element_right, record_name_right, body_right}
+use Rattle.statics.proofs.Statements.{tested, starts_decides, refusing, mode_le, element_le, name_le, init_le, body_le, written_right, element_right, record_name_right, body_right}
 
--- a test, and f where it fails
-tested : {P : Type 0} {b : Bool} (lo hi : ℕ) (f : Refusal) → Span lo hi (place_of f) → Decides b P → Checks lo hi (Lacks (λ (u : Unit {0}). P) f) (check b f)
-tested lo hi f i t = asked lo hi f _ _ i (tells_unit _ t)
-
+-- the same, if all before it is right
 then_tested : {P : Type 0} {b : Bool} {W : Wrongs} {r : Result (Unit {0}) Refusal} (lo hi : ℕ) (f : Refusal) → Span lo hi (place_of f) → Checks lo hi W r → Decides b P → Checks lo hi (ThenAsk W (λ u. P) f) (then r (λ u. check b f))
 then_tested {P} lo hi f i c t = cleaned (chain (λ u v. P) _ _ c (λ u h. lacking lo hi f i (tells_unit _ t)))
 
@@ -126,12 +122,6 @@ mutual
   entry_right (repeated v j n) Γ w k lo hi i = then_tested lo hi (Misfit (front_value v)) (value_in v lo hi i) (value_right v Γ (inner Γ w k) lo hi i) (repeats_decides w)
 
 -- Without a value.
-starts_decides : (m : Mode) → Decides (is_plain m) (Starts m tt)
-starts_decides (plain k) = yes tt
-starts_decides (ref k) = no (λ x. x)
-starts_decides (ref_record r) = no (λ x. x)
-starts_decides (ref_array e) = no (λ x. x)
-
 all_decides : (ms : List Mode) → Decides (list_all is_plain ms) (AllStart ms tt)
 all_decides [] = yes tt
 all_decides (m ∷ ms) = Decides-and _ _ (starts_decides m) (all_decides ms)

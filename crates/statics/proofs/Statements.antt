@@ -1,5 +1,5 @@
 -- Blocks and statements are judged right. Assumes nothing.
-use Rattle.std.proofs.Common.{◌≡◌, ℕ, ◌+◌, ◌≤◌, Bool, true, false, ◌⊎◌, length, Some, None, Err, Option, Result, ok_or, sym, refl, subst, inl, inr, arith}
+use Rattle.std.proofs.Common.{◌≡◌, ℕ, ◌+◌, ◌≤◌, Bool, true, false, ◌⊎◌, length, Some, None, Err, Option, Result, sym, refl, subst, inl, inr, arith}
 use Rattle.std.specs.Bool.{Decides, then_some}
 use Rattle.std.proofs.lemmas.Bool.Decides.{not_from_Decides}
 use Rattle.statics.specs.declared.Refusal.{Refusal}
@@ -15,16 +15,16 @@ use Rattle.statics.specs.Expressions.{Form, Gives, Off, expr, a_variable, count,
 use Rattle.statics.specs.Written.{mode_of, record_name, written, written_element, list_names}
 use Rattle.statics.specs.Statements.{into, Starts, local_item, local_items, local_dec, local_decs, entries, inside, ready_inside, aim, aimed, Joined, targets, Silent, a_body, sequence, statement, arms}
 use Rattle.statics.specs.Order.{Span, In, InVariable, InMany, InCondition, InMode, InElement, InName, InInit, InLocal, InLocals, InDestination, InBody, InSequence, InStatement, InArms}
-use Rattle.statics.specs.JudgeExpressions.{then, same_mode, bring, done, shapes, judge, judge_variable, judge_condition}
-use Rattle.statics.specs.JudgeStatements.{judge_record_name, judge_written, judge_element, judge_into, starts, judge_local_item, judge_local_items, judge_local_dec, judge_local_decs, join, judge_target, judge_targets, silent, judge_body, judge_sequence, judge_statement, judge_arms}
+use Rattle.statics.specs.JudgeExpressions.{then, check, same_mode, bring, done, shapes, judge, judge_variable, judge_condition}
+use Rattle.statics.specs.JudgeStatements.{judge_record_name, judge_written, judge_element, judge_into, is_plain, judge_local_item, judge_local_items, judge_local_dec, judge_local_decs, join, judge_target, judge_targets, silent, judge_body, judge_sequence, judge_statement, judge_arms}
 use Rattle.statics.proofs.Decide.{Tells, found, none, Also, Judged, lacking, like, cleaned, wider, chain, alone, two, turn, plainly, next, nothing}
-use Rattle.statics.proofs.Fit.{same_mode_decides}
+use Rattle.statics.proofs.Fit.{yes, no, tells_unit, same_mode_decides}
 use Rattle.statics.proofs.Names.{look_judged, shapes_tells}
 use Rattle.statics.proofs.Expressions.{Right, Checks, brought, front_in, spot_in, front_variable_in, exprs_le, many_le, condition_le, expr_right, variable_right, args_right, args_inner, called_right, condition_right}
 
--- a check that asks for something of the one element
-pub asked : (lo hi : ℕ) (f : Refusal) (K : Unit {0} → Type 0) (o : Option (Unit {0})) → Span lo hi (place_of f) → Tells K o → Checks lo hi (Lacks K f) (ok_or o f)
-asked lo hi f K o i t = cleaned (lacking lo hi f i t)
+-- a test, and f where it fails
+pub tested : {P : Type 0} {b : Bool} (lo hi : ℕ) (f : Refusal) → Span lo hi (place_of f) → Decides b P → Checks lo hi (Lacks (λ (u : Unit {0}). P) f) (check b f)
+tested lo hi f i d = cleaned (lacking lo hi f i (tells_unit _ d))
 
 pub brought_check : (Γ : Env) (m : Mode) (e : Expr 5) (lo hi : ℕ) → In lo e hi → Checks lo hi (Off (expr Γ e) (spot e) (mode m)) (then (bring (mode m) (spot e) (judge Γ e)) done)
 brought_check Γ m e lo hi i = plainly (brought lo hi (spot e) (expr Γ e) (mode m) (judge Γ e) (spot_in e lo hi i) (expr_right Γ e lo hi i))
@@ -62,11 +62,11 @@ mutual
   element_right Γ (tree.records n) lo hi i = record_name_right Γ n lo hi i
 
 -- Locals.
-starts_tells : (m : Mode) → Tells (Starts m) (starts m)
-starts_tells (plain k) = found tt (λ u x. refl)
-starts_tells (ref k) = none (λ u x. x)
-starts_tells (ref_record r) = none (λ u x. x)
-starts_tells (ref_array e) = none (λ u x. x)
+pub starts_decides : (m : Mode) → Decides (is_plain m) (Starts m tt)
+starts_decides (plain k) = yes tt
+starts_decides (ref k) = no (λ x. x)
+starts_decides (ref_record r) = no (λ x. x)
+starts_decides (ref_array e) = no (λ x. x)
 
 pub name_le : (n lo hi : ℕ) → InName lo n hi → lo ≤ hi
 name_le n lo hi i = omega arith
@@ -82,7 +82,7 @@ init_le I le (given ns a) lo hi i =
     omega arith
 
 local_item_right : (Γ : Env) (m : Mode) (x : Init (Expr 5)) (lo hi : ℕ) → InInit In lo x hi → Checks lo hi (local_item Γ m x) (judge_local_item Γ m x)
-local_item_right Γ m (tree.plain n) lo hi i = asked lo hi (NoValue n) (Starts m) (starts m) i (starts_tells m)
+local_item_right Γ m (tree.plain n) lo hi i = tested lo hi (NoValue n) i (starts_decides m)
 local_item_right Γ m (given ns e) lo hi i =
     let f = many_le InName name_le ns lo i.0 i.1 in
     wider lo hi (omega arith) (omega arith) (brought_check Γ m e i.0 hi i.2)
@@ -273,7 +273,7 @@ mutual
   statement_right Γ (branch_else ws s) lo hi i = next (arms_le ws lo i.0 i.1) (sequence_le s i.0 hi i.2) (arms_right Γ ws lo i.0 i.1) (sequence_right Γ s i.0 hi i.2)
   statement_right Γ (repeat e b) lo hi i = next (expr_le e lo i.0 i.1) (body_le b i.0 hi i.2) (brought_check Γ INT e lo i.0 i.1) (body_right Γ b i.0 hi i.2)
   statement_right Γ (loop c s) lo hi i = guarded Γ _ _ lo i.0 hi (sequence_le s i.0 hi i.2) c i.1 (sequence_right Γ s i.0 hi i.2)
-  statement_right Γ (return k) lo hi i = asked lo hi (Misfit k) (Silent Γ.result) (silent Γ.result) i (silent_tells Γ.result)
+  statement_right Γ (return k) lo hi i = cleaned (lacking lo hi (Misfit k) i (silent_tells Γ.result))
   statement_right Γ (return_with k j e) lo hi i =
       let f = front_in e (k + 1) hi i.1 in
       into_right Γ Γ.result k e lo (k + 1) hi (omega (arith, i.0)) (i.0, omega arith) i.1

@@ -7,13 +7,13 @@ use Rattle.statics.specs.declared.Refusal.{Refusal}
 use Rattle.statics.specs.declared.Refusal.TheVariants.{WrongName, Misfit, NoValue}
 use Rattle.grammar.specs.Trees.{Value, constant, signed, minus_signed, identifier, string, empty_list, list, Values, only, and, Entry, once, repeated, Many, one, more, Opt, Fields, also, Init, given, Dec, variables, arrays, structures, Brick, store, procedure, Moditem, blank, external_procs, external_store, own, entry, Module}
 use Rattle.grammar.specs.Trees as tree
-use Rattle.statics.specs.Modes.{Word, int, byte, Mode, plain, ref, ref_record, ref_array, Element, simple, records, INT, BYTE, Thing}
+use Rattle.statics.specs.Modes.{Word, int, byte, plain, ref, ref_record, ref_array, Element, simple, records, INT, BYTE, Thing}
 use Rattle.statics.specs.Scopes.{Text, Env, same_word, Signature, record_modes}
 use Rattle.statics.specs.Written.{mode_of, element_of}
 use Rattle.statics.specs.Values.{Want, free, simply, several, recorded, inner, address_mode, total, how_many, front_value}
 use Rattle.statics.specs.Modules.{maybe_mode, modes, in_record, in_procedure, outermost, module_env}
 use Rattle.statics.specs.JudgeExpressions.{then, check, look, keeps, same_mode, same_element, judge_each}
-use Rattle.statics.specs.JudgeStatements.{judge_record_name, judge_written, judge_element, judge_body}
+use Rattle.statics.specs.JudgeStatements.{judge_record_name, judge_written, judge_element, is_plain, judge_body}
 
 abbrev pub takes_integer : Want → Bool → ℕ → Bool
 takes_integer free s v = true
@@ -67,12 +67,6 @@ abbrev mutual
   pub judge_entry : Env → Want → ℕ → Entry → Result (Unit {0}) Refusal
   judge_entry Γ w k (once v) = judge_value Γ (inner Γ w k) v
   judge_entry Γ w k (repeated v i n) = then (judge_value Γ (inner Γ w k) v) (λ u. check (repeats w) (Misfit (front_value v)))
-
-abbrev pub is_plain : Mode → Bool
-is_plain (plain k) = true
-is_plain (ref k) = false
-is_plain (ref_record r) = false
-is_plain (ref_array e) = false
 
 abbrev pub element_starts : Env → Element → Bool
 element_starts Γ (simple m) = is_plain m

@@ -1,5 +1,5 @@
 -- The judging of blocks and statements as functions. Theorems says that it is right.
-use Rattle.std.specs.Prelude.{ℕ, length, Some, None, Ok, Err, Option, Result, ok_or, option_and_then}
+use Rattle.std.specs.Prelude.{ℕ, Bool, true, false, length, Some, None, Ok, Err, Option, Result, ok_or, option_and_then}
 use Rattle.std.specs.Bool.{then_some}
 use Rattle.statics.specs.declared.Refusal.{Refusal}
 use Rattle.statics.specs.declared.Refusal.TheVariants.{Misfit, NoValue}
@@ -11,7 +11,7 @@ use Rattle.statics.specs.Fronts.{spot, front_variable, front_destinations}
 use Rattle.statics.specs.Expressions.{count}
 use Rattle.statics.specs.Written.{mode_of, list_names}
 use Rattle.statics.specs.Statements.{entries, inside, ready_inside, aim, aimed}
-use Rattle.statics.specs.JudgeExpressions.{then, same_mode, bring, look, shapes, done, judge, judge_variable, judge_args, judge_call, judge_condition}
+use Rattle.statics.specs.JudgeExpressions.{then, check, same_mode, bring, look, shapes, done, judge, judge_variable, judge_args, judge_call, judge_condition}
 
 abbrev pub judge_record_name : Env → ℕ → Result (Unit {0}) Refusal
 judge_record_name Γ n = look Γ n shapes
@@ -34,14 +34,14 @@ abbrev pub judge_into : Option Mode → ℕ → Result Thing Refusal → ℕ →
 judge_into None p r s = then (then r done) (λ u. Err (Misfit p))
 judge_into (Some m) p r s = then (bring (mode m) s r) done
 
-abbrev pub starts : Mode → Option (Unit {0})
-starts (plain k) = Some tt
-starts (ref k) = None
-starts (ref_record r) = None
-starts (ref_array e) = None
+abbrev pub is_plain : Mode → Bool
+is_plain (plain k) = true
+is_plain (ref k) = false
+is_plain (ref_record r) = false
+is_plain (ref_array e) = false
 
 abbrev pub judge_local_item : Env → Mode → Init (Expr 5) → Result (Unit {0}) Refusal
-judge_local_item Γ m (tree.plain n) = ok_or (starts m) (NoValue n)
+judge_local_item Γ m (tree.plain n) = check (is_plain m) (NoValue n)
 judge_local_item Γ m (given ns e) = then (bring (mode m) (spot e) (judge Γ e)) done
 
 abbrev pub judge_local_items : Env → Mode → Many (Init (Expr 5)) → Result (Unit {0}) Refusal

@@ -13,6 +13,7 @@ pub mod Modules
 pub mod JudgeModules
 pub mod Order
 pub mod Theorems
+pub mod Blocks
 pub mod DeclaredTwice
 pub mod Space
 pub mod Crowds
