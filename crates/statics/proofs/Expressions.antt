@@ -4,7 +4,7 @@ use Rattle.std.specs.Bool.{Decides}
 use Rattle.std.proofs.lemmas.Bool.Decides.{Decides-eqb}
 use Rattle.statics.specs.declared.Refusal.{Refusal}
 use Rattle.statics.specs.declared.Refusal.TheVariants.{WrongName, Misfit}
-use Rattle.grammar.specs.Trees.{Dyadic, Expr, term, up, dyadic, Term, monadic, primary, Primary, integer, text, variable, call, call_on, paren, Variable, name, element, component, Exprs, first, comma, Comparator, equal, unequal, less, at_most, greater, at_least, same_place, other_place, Comparison, compare, Condition, Many, one, more}
+use Rattle.grammar.specs.Trees.{Dyadic, Expr, term, up, dyadic, Term, monadic, primary, Primary, integer, text, variable, call, call_on, paren, Variable, name, element, component, Exprs, first, comma, Comparator, same_place, other_place, Comparison, compare, Condition, Many, one, more}
 use Rattle.statics.specs.Modes.{Mode, INT, Thing, value, Need, mode, elements, components, Fits, subscript, referred_record}
 use Rattle.statics.specs.Laws.{Wrongs, Never, Both, Lacks, Clean}
 use Rattle.statics.specs.Scopes.{Env, Class, Signature, Head, thing, signature, Called, Stands, Runs, Heads}
@@ -70,12 +70,8 @@ mutual
   spot_term_in (primary p) lo hi i = spot_primary_in p lo hi i
 
   pub spot_primary_in : (p : Primary) (lo hi : ℕ) → InPrimary lo p hi → Span lo hi (spot_primary p)
-  spot_primary_in (integer k) lo hi i = i
-  spot_primary_in (text k) lo hi i = i
-  spot_primary_in (variable v) lo hi i = front_variable_in v lo hi i
-  spot_primary_in (call n k) lo hi i = i
-  spot_primary_in (call_on n k es e) lo hi i = front_primary_in (call_on n k es e) lo hi i
   spot_primary_in (paren k e) lo hi i = let f = spot_in e (k + 1) hi i.1 in (omega arith, omega arith)
+  spot_primary_in p lo hi i = front_primary_in p lo hi i
 
 abbrev pub Right : {A : Type 0} → ℕ → ℕ → Rule A → Result A Refusal → Type 0
 Right lo hi x r = Judged lo hi x.has x.wrong r
@@ -224,14 +220,9 @@ mutual
 
 -- Comparisons and conditions.
 agree_decides : (o : Comparator) (m k : Mode) → Decides (agree o m k) (Agree o m k)
-agree_decides equal m k = yes tt
-agree_decides unequal m k = yes tt
-agree_decides less m k = yes tt
-agree_decides at_most m k = yes tt
-agree_decides greater m k = yes tt
-agree_decides at_least m k = yes tt
 agree_decides same_place m k = same_mode_decides m k
 agree_decides other_place m k = same_mode_decides m k
+agree_decides _ m k = yes tt
 
 then_pair : {A B C : Type 0} (r : Result A Refusal) (s : Result B Refusal) (h : A → B → Result C Refusal) → then {A = A × B} (then r (λ a. then s (λ b. Ok (a, b)))) (λ x. h x.0 x.1) ≡ then r (λ a. then s (λ b. h a b))
 then_pair (Ok a) (Ok b) h = refl

@@ -46,34 +46,21 @@ tells_bind {A} {B} {H} K f (found {a} t one) g = go (g a)
 
 pub same_plain_decides : (k l : Plain) → Decides (same_plain k l) (k ≡ l)
 same_plain_decides int int = yes refl
-same_plain_decides int byte = no (λ e. grind arith)
-same_plain_decides byte int = no (λ e. grind arith)
 same_plain_decides byte byte = yes refl
+same_plain_decides _ _ = no (λ e. grind arith)
 
 mutual
   pub same_mode_decides : (m k : Mode) → Decides (same_mode m k) (m ≡ k)
   same_mode_decides (plain k) (plain l) = Decides-like _ (λ e. ap plain e) (λ e. cc) (same_plain_decides k l)
-  same_mode_decides (plain k) (ref l) = no (λ e. grind arith)
-  same_mode_decides (plain k) (ref_record r) = no (λ e. grind arith)
-  same_mode_decides (plain k) (ref_array f) = no (λ e. grind arith)
-  same_mode_decides (ref k) (plain l) = no (λ e. grind arith)
   same_mode_decides (ref k) (ref l) = Decides-like _ (λ e. ap ref e) (λ e. cc) (same_plain_decides k l)
-  same_mode_decides (ref k) (ref_record r) = no (λ e. grind arith)
-  same_mode_decides (ref k) (ref_array f) = no (λ e. grind arith)
-  same_mode_decides (ref_record r) (plain l) = no (λ e. grind arith)
-  same_mode_decides (ref_record r) (ref l) = no (λ e. grind arith)
   same_mode_decides (ref_record r) (ref_record s) = Decides-like _ (λ e. ap ref_record e) (λ e. cc) (bytes_eq-Decides r s)
-  same_mode_decides (ref_record r) (ref_array f) = no (λ e. grind arith)
-  same_mode_decides (ref_array d) (plain l) = no (λ e. grind arith)
-  same_mode_decides (ref_array d) (ref l) = no (λ e. grind arith)
-  same_mode_decides (ref_array d) (ref_record s) = no (λ e. grind arith)
   same_mode_decides (ref_array d) (ref_array f) = Decides-like _ (λ e. ap ref_array e) (λ e. cc) (same_element_decides d f)
+  same_mode_decides m k = no (λ e. grind arith)
 
   pub same_element_decides : (d f : Element) → Decides (same_element d f) (d ≡ f)
   same_element_decides (simple m) (simple k) = Decides-like _ (λ e. ap simple e) (λ e. cc) (same_mode_decides m k)
-  same_element_decides (simple m) (records r) = no (λ e. grind arith)
-  same_element_decides (records r) (simple k) = no (λ e. grind arith)
   same_element_decides (records r) (records s) = Decides-like _ (λ e. ap records e) (λ e. cc) (bytes_eq-Decides r s)
+  same_element_decides d f = no (λ e. grind arith)
 
 -- the plain mode offered, and the reference offered
 abbrev Numeric : Thing → Plain → Type 0
@@ -82,76 +69,49 @@ Numeric t k = (n : ℕ) × Offers t (plain k) n
 abbrev Refers : Thing → Mode → Type 0
 Refers t m = (n : ℕ) × Offers t m n × Reference m
 
-some_one : {A : Type 0} {a b : A} {o : Option A} → o ≡ Some a → o ≡ Some b → b ≡ a
-some_one p q = cc
-
-some_none : {A : Type 0} {a : A} {o : Option A} → o ≡ Some a → o ≡ None → ⊥
-some_none p q = grind arith
-
 -- the plain mode that something offers is the one that number_of finds
 number_only : {t : Thing} {m : Mode} {n : ℕ} → Offers t m n → (k : Plain) → m ≡ plain k → number_of t ≡ Some k
 number_only itself k e = ap plain_of e
 number_only referred k e = ap plain_of e
 number_only contents k e = ap plain_of e
 number_only contents_referred k e = ap plain_of e
-number_only address k e = absurd (let z : ⊥ = grind arith in z)
-number_only array_address k e = absurd (let z : ⊥ = grind arith in z)
-number_only record_address k e = absurd (let z : ⊥ = grind arith in z)
+number_only _ k e = let z : ⊥ = grind arith in absurd z
+
+one_number : {t : Thing} {l : Plain} → number_of t ≡ Some l → (k : Plain) → Numeric t k → k ≡ l
+one_number e k x = let y = number_only x.1 k refl in cc
+
+no_number : {t : Thing} → number_of t ≡ None → (k : Plain) → Numeric t k → ⊥
+no_number e k x = let y = number_only x.1 k refl in grind arith
 
 number_tells : (t : Thing) → Tells (Numeric t) (number_of t)
-number_tells t = go t (number_of t) refl
-  where
-    back : (t : Thing) (k : Plain) → number_of t ≡ Some k → Numeric t k
-    back (value (plain l)) k e = subst (Numeric (value (plain l))) (some_one e refl) (0, itself)
-    back (value (ref l)) k e = subst (Numeric (value (ref l))) (some_one e refl) (1, referred)
-    back (value (ref_record r)) k e = absurd (some_none e refl)
-    back (value (ref_array d)) k e = absurd (some_none e refl)
-    back (place b (plain l)) k e = subst (Numeric (place b (plain l))) (some_one e refl) (1, contents)
-    back (place b (ref l)) k e = subst (Numeric (place b (ref l))) (some_one e refl) (2, contents_referred)
-    back (place b (ref_record r)) k e = absurd (some_none e refl)
-    back (place b (ref_array d)) k e = absurd (some_none e refl)
-    back (array d) k e = absurd (some_none e refl)
-    back (structure r) k e = absurd (some_none e refl)
-
-    go : (t : Thing) (o : Option Plain) → number_of t ≡ o → Tells (Numeric t) o
-    go t None e = none (λ k x. some_none (number_only x.1 k refl) e)
-    go t (Some k) e = found (back t k e) (λ l x. some_one e (number_only x.1 l refl))
+number_tells (value (plain l)) = found (0, itself) (one_number refl)
+number_tells (value (ref l)) = found (1, referred) (one_number refl)
+number_tells (place b (plain l)) = found (1, contents) (one_number refl)
+number_tells (place b (ref l)) = found (2, contents_referred) (one_number refl)
+number_tells _ = none (no_number refl)
 
 -- the reference that something offers is the one that ref_of finds
 ref_only : {t : Thing} {m : Mode} {n : ℕ} → Offers t m n → Reference m → ref_of t ≡ Some m
 ref_only (itself {m = plain k}) r = absurd r
-ref_only (itself {m = ref k}) r = refl
-ref_only (itself {m = ref_record w}) r = refl
-ref_only (itself {m = ref_array e}) r = refl
 ref_only referred r = absurd r
-ref_only (contents {b = b} {m = plain k}) r = absurd r
-ref_only (contents {b = b} {m = ref k}) r = refl
-ref_only (contents {b = b} {m = ref_record w}) r = refl
-ref_only (contents {b = b} {m = ref_array e}) r = refl
+ref_only (contents {m = plain k}) r = absurd r
 ref_only contents_referred r = absurd r
-ref_only address r = refl
-ref_only array_address r = refl
-ref_only record_address r = refl
+ref_only _ r = refl
+
+one_ref : {t : Thing} {m : Mode} → ref_of t ≡ Some m → (k : Mode) → Refers t k → k ≡ m
+one_ref e k x = let y = ref_only x.1 x.2 in cc
+
+no_ref : {t : Thing} → ref_of t ≡ None → (k : Mode) → Refers t k → ⊥
+no_ref e k x = let y = ref_only x.1 x.2 in grind arith
 
 ref_tells : (t : Thing) → Tells (Refers t) (ref_of t)
-ref_tells t = go t (ref_of t) refl
-  where
-    back : (t : Thing) (m : Mode) → ref_of t ≡ Some m → Refers t m
-    back (value (plain k)) m e = absurd (some_none e refl)
-    back (value (ref k)) m e = subst (Refers (value (ref k))) (some_one e refl) (0, itself, tt)
-    back (value (ref_record r)) m e = subst (Refers (value (ref_record r))) (some_one e refl) (0, itself, tt)
-    back (value (ref_array d)) m e = subst (Refers (value (ref_array d))) (some_one e refl) (0, itself, tt)
-    back (place true (plain k)) m e = subst (Refers (place true (plain k))) (some_one e refl) (0, address, tt)
-    back (place false (plain k)) m e = absurd (some_none e refl)
-    back (place b (ref k)) m e = subst (Refers (place b (ref k))) (some_one e refl) (1, contents, tt)
-    back (place b (ref_record r)) m e = subst (Refers (place b (ref_record r))) (some_one e refl) (1, contents, tt)
-    back (place b (ref_array d)) m e = subst (Refers (place b (ref_array d))) (some_one e refl) (1, contents, tt)
-    back (array d) m e = subst (Refers (array d)) (some_one e refl) (0, array_address, tt)
-    back (structure r) m e = subst (Refers (structure r)) (some_one e refl) (0, record_address, tt)
-
-    go : (t : Thing) (o : Option Mode) → ref_of t ≡ o → Tells (Refers t) o
-    go t None e = none (λ m x. some_none (ref_only x.1 x.2) e)
-    go t (Some m) e = found (back t m e) (λ k x. some_one e (ref_only x.1 x.2))
+ref_tells (value (plain k)) = none (no_ref refl)
+ref_tells (value m) = found (0, itself, tt) (one_ref refl)
+ref_tells (place true (plain k)) = found (0, address, tt) (one_ref refl)
+ref_tells (place false (plain k)) = none (no_ref refl)
+ref_tells (place b m) = found (1, contents, tt) (one_ref refl)
+ref_tells (array d) = found (0, array_address, tt) (one_ref refl)
+ref_tells (structure r) = found (0, record_address, tt) (one_ref refl)
 
 widens_decides : (k l : Plain) → Decides (widens k l) (Widens k l)
 widens_decides int int = yes alike
@@ -181,9 +141,7 @@ mode_tells (plain l) t = tells_like _ to back (tells_bind (λ k c. Widens k l ×
     back : (c : Mode) → Fits (mode (plain l)) t c → Pair (Numeric t) (λ k c. Widens k l × (c ≡ plain l)) c
     back c (widened {k = k} {n = n} o w) = (k, (n, o), (w, refl))
     back c (wanted o r) = absurd r
-mode_tells (ref k) t = fit_ref_tells (ref k) t tt
-mode_tells (ref_record r) t = fit_ref_tells (ref_record r) t tt
-mode_tells (ref_array e) t = fit_ref_tells (ref_array e) t tt
+mode_tells m t = fit_ref_tells m t tt
 
 -- of the references, those to arrays, and those to records
 abbrev ArrayRef : Mode → Mode → Type 0
@@ -193,16 +151,12 @@ abbrev RecordRef : Mode → Mode → Type 0
 RecordRef m c = (r : Word) × (m ≡ ref_record r) × (c ≡ ref_record r)
 
 only_array_tells : (m : Mode) → Tells (ArrayRef m) (only_array m)
-only_array_tells (plain k) = none (λ c x. let e = x.1 in grind arith)
-only_array_tells (ref k) = none (λ c x. let e = x.1 in grind arith)
-only_array_tells (ref_record r) = none (λ c x. let e = x.1 in grind arith)
 only_array_tells (ref_array e) = found (e, refl, refl) (λ c x. x.2 ∙ sym x.1)
+only_array_tells _ = none (λ c x. let e = x.1 in grind arith)
 
 only_record_tells : (m : Mode) → Tells (RecordRef m) (only_record m)
-only_record_tells (plain k) = none (λ c x. let e = x.1 in grind arith)
-only_record_tells (ref k) = none (λ c x. let e = x.1 in grind arith)
 only_record_tells (ref_record r) = found (r, refl, refl) (λ c x. x.2 ∙ sym x.1)
-only_record_tells (ref_array e) = none (λ c x. let e = x.1 in grind arith)
+only_record_tells _ = none (λ c x. let e = x.1 in grind arith)
 
 place_one : {b : Bool} {m c : Mode} → Fits scalar (place b m) c → c ≡ m
 place_one a_place = refl
@@ -240,60 +194,7 @@ fit_tells components t = tells_like _ to back (tells_bind RecordRef only_record 
 
     back : (c : Mode) → Fits components t c → Pair (Refers t) RecordRef c
     back c (a_record {r = r} {n = n} o) = (ref_record r, (n, o, tt), (r, refl, refl))
-fit_tells scalar (value m) = none (λ c f. elim f [ ])
 fit_tells scalar (place b m) = found a_place (λ c f. place_one f)
-fit_tells scalar (array e) = none (λ c f. elim f [ ])
-fit_tells scalar (structure r) = none (λ c f. elim f [ ])
-fit_tells pointed (value m) = none (λ c f. elim f [ ])
-fit_tells pointed (place b (plain k)) = none (λ c f. elim f [ ])
 fit_tells pointed (place b (ref k)) = found a_pointer (λ c f. pointer_one f)
-fit_tells pointed (place b (ref_record r)) = none (λ c f. elim f [ ])
-fit_tells pointed (place b (ref_array e)) = none (λ c f. elim f [ ])
-fit_tells pointed (array e) = none (λ c f. elim f [ ])
-fit_tells pointed (structure r) = none (λ c f. elim f [ ])
-
--- the number of reads
-abbrev value_reads : Mode → Mode → ℕ
-value_reads (plain k) m = 0
-value_reads (ref k) (plain l) = 1
-value_reads (ref k) (ref l) = 0
-value_reads (ref k) (ref_record r) = 0
-value_reads (ref k) (ref_array e) = 0
-value_reads (ref_record r) m = 0
-value_reads (ref_array e) m = 0
-
-abbrev place_reads : Mode → Mode → ℕ
-place_reads (plain k) (plain l) = 1
-place_reads (plain k) (ref l) = 0
-place_reads (plain k) (ref_record r) = 0
-place_reads (plain k) (ref_array e) = 0
-place_reads (ref k) (plain l) = 2
-place_reads (ref k) (ref l) = 1
-place_reads (ref k) (ref_record r) = 1
-place_reads (ref k) (ref_array e) = 1
-place_reads (ref_record r) m = 1
-place_reads (ref_array e) m = 1
-
-abbrev reads : Thing → Mode → ℕ
-reads (value m) k = value_reads m k
-reads (place b m) k = place_reads m k
-reads (array e) k = 0
-reads (structure r) k = 0
-
-reads_is : {t : Thing} {m : Mode} {n : ℕ} → Offers t m n → n ≡ reads t m
-reads_is (itself {m = plain k}) = refl
-reads_is (itself {m = ref k}) = refl
-reads_is (itself {m = ref_record w}) = refl
-reads_is (itself {m = ref_array e}) = refl
-reads_is referred = refl
-reads_is (contents {b = b} {m = plain k}) = refl
-reads_is (contents {b = b} {m = ref k}) = refl
-reads_is (contents {b = b} {m = ref_record w}) = refl
-reads_is (contents {b = b} {m = ref_array e}) = refl
-reads_is contents_referred = refl
-reads_is address = refl
-reads_is array_address = refl
-reads_is record_address = refl
-
-pub one_reading_lem : {t : Thing} {m : Mode} {k l : ℕ} → Offers t m k → Offers t m l → k ≡ l
-one_reading_lem a b = reads_is a ∙ sym (reads_is b)
+fit_tells scalar _ = none (λ c f. elim f [ ])
+fit_tells pointed _ = none (λ c f. elim f [ ])

@@ -2,6 +2,7 @@
 use Rattle.std.proofs.Common.{◌≡◌, ℕ, ◌+◌, ◌<◌, ◌≤◌, Bool, true, false, cond, ◌⊎◌, List, [], ◌∷◌, ◌++◌, Some, None, Ok, Err, Option, Result, sym, refl, ap, ◌∙◌, inl, inr, arith}
 use Rattle.std.specs.Prelude.{flat_map, option_to_list, slice_get, ltb}
 use Rattle.std.specs.Bool.{Decides}
+use Rattle.std.proofs.Math.Nat.{eq-or-lt_of_le}
 use Rattle.std.proofs.lemmas.Bool.{ltb-true, ltb-false}
 use Rattle.std.proofs.lemmas.Bool.Decides.{not_from_Decides}
 use Rattle.std.proofs.lemmas.Slice.Eq.{bytes_eq-Decides}
@@ -66,9 +67,6 @@ least_is (a ∷ l) = go (least_is l)
         pick true e = let lt = ltb-true a b e in there (inl refl) (λ p x. elim x [ inl q ↦ omega arith | inr y ↦ let k = low p y in omega arith ])
         pick false e = let le = ltb-false a b e in there (inr h) (λ p x. elim x [ inl q ↦ omega arith | inr y ↦ low p y ])
 
-at_or_after : (a p : ℕ) → a ≤ p → (a < p) ⊎ (a ≡ p)
-at_or_after a p h = grind arith
-
 -- one kind of refusal, at the least of a list
 pub least_verdict :
     (k : ℕ → Refusal) → ((p : ℕ) → place_of (k p) ≡ p) → (P : ℕ → Type 0) (l : List ℕ)
@@ -79,7 +77,7 @@ least_verdict k place P l to back = go (least_is l)
   where
     go : {o : Option ℕ} → Least l o → Verdict (Clean (Wherever k P)) (Wherever k P) (report k o)
     go (nowhere n) = let clean : Clean (Wherever k P) tt = λ f w. n w.0 (to w.0 w.1) in (clean, clean)
-    go (there {a} h low) = ((a, back a h, refl), λ f w. elim (at_or_after a w.0 (low w.0 (to w.0 w.1))) [ inl x ↦ inl (rw (w.2, place w.0, place a) x) | inr x ↦ inr (rw x w.2) ])
+    go (there {a} h low) = ((a, back a h, refl), λ f w. elim (eq-or-lt_of_le (low w.0 (to w.0 w.1))) [ inl x ↦ inr (rw x w.2) | inr x ↦ inl (rw (w.2, place w.0, place a) x) ])
 
 -- one kind of refusal, at one place
 pub one_verdict : (k : ℕ → Refusal) (P : ℕ → Type 0) {o : Option ℕ} → Tells P o → Verdict (Clean (Wherever k P)) (Wherever k P) (report k o)

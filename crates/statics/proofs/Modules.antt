@@ -11,7 +11,7 @@ use Rattle.statics.specs.Refusals.{place_of}
 use Rattle.statics.specs.declared.Refusal.TheVariants.{WrongName, Misfit, NoValue}
 use Rattle.grammar.specs.Trees.{Value, constant, signed, minus_signed, identifier, string, empty_list, list, Values, only, and, Entry, once, repeated, Many, one, more, Opt, Fields, also, Init, given, Dec, variables, arrays, structures, Body, Brick, store, procedure, Moditem, blank, external_procs, external_store, own, entry, Module}
 use Rattle.grammar.specs.Trees as tree
-use Rattle.statics.specs.Modes.{Word, int, byte, Mode, plain, ref, ref_record, ref_array, Element, simple, records, INT, BYTE, Thing}
+use Rattle.statics.specs.Modes.{Word, int, byte, Mode, plain, ref_array, Element, simple, records, INT, BYTE, Thing}
 use Rattle.statics.specs.Laws.{Wrongs}
 use Rattle.statics.specs.Scopes.{Text, Env, Keeps, Signature, record_modes}
 use Rattle.statics.specs.Expressions.{each}
@@ -37,23 +37,17 @@ integer_decides free s v = yes tt
 integer_decides (simply (plain int)) s v = yes tt
 integer_decides (simply (plain byte)) true v = no (λ x. let e = x.0 in grind arith)
 integer_decides (simply (plain byte)) false v = Decides-like _ (λ h. (refl, h)) (λ x. x.1) (Decides-ltb v 256)
-integer_decides (simply (ref k)) s v = no (λ x. x)
-integer_decides (simply (ref_record r)) s v = no (λ x. x)
-integer_decides (simply (ref_array e)) s v = no (λ x. x)
-integer_decides (several n e) s v = no (λ x. x)
-integer_decides (recorded r) s v = no (λ x. x)
+integer_decides _ s v = no (λ x. x)
 
 maybe_mode_decides : (o p : Option Mode) → Decides (option_eq same_mode o p) (o ≡ p)
 maybe_mode_decides None None = yes refl
-maybe_mode_decides None (Some m) = no (λ e. grind arith)
-maybe_mode_decides (Some k) None = no (λ e. grind arith)
 maybe_mode_decides (Some k) (Some m) = Decides-like _ (λ e. ap Some e) (λ e. cc) (same_mode_decides k m)
+maybe_mode_decides _ _ = no (λ e. grind arith)
 
 name_decides : (w : Want) (t : Thing) → Decides (takes_name w t) (TakesName w t tt)
 name_decides free t = yes tt
 name_decides (simply m) t = maybe_mode_decides (address_mode t) (Some m)
-name_decides (several n e) t = no (λ x. x)
-name_decides (recorded r) t = no (λ x. x)
+name_decides _ t = no (λ x. x)
 
 string_decides : (w : Want) (k : ℕ) → Decides (takes_string w k) (TakesString w k tt)
 string_decides free k = yes tt
@@ -68,10 +62,8 @@ list_decides Γ (several l e) k n = Decides-eqb n l
 list_decides Γ (recorded r) k n = Decides-eqb k (length (record_modes Γ.parts r))
 
 repeats_decides : (w : Want) → Decides (repeats w) (Repeats w tt)
-repeats_decides free = yes tt
-repeats_decides (simply m) = yes tt
-repeats_decides (several n e) = yes tt
 repeats_decides (recorded r) = no (λ x. x)
+repeats_decides _ = yes tt
 
 mutual
   value_in : (v : Value) (lo hi : ℕ) → InValue lo v hi → Span lo hi (front_value v)

@@ -1,27 +1,25 @@
 -- What a name means. Assumes nothing.
 use Rattle.std.proofs.Common.{◌≡◌, ℕ, zero, suc, ◌<◌, Bool, true, false, cond, ◌⊎◌, length, get_or, Some, Option, refl, ap, subst, inl, inr, arith}
 use Rattle.std.specs.Bool.{Decides}
+use Rattle.std.proofs.lemmas.Bool.{cases_order}
 use Rattle.std.proofs.lemmas.Bool.Decides.{Decides-and, Decides-ltb, not_from_Decides}
 use Rattle.std.proofs.lemmas.Slice.Eq.{bytes_eq-Decides}
 use Rattle.statics.specs.declared.Refusal.TheVariants.{WrongName}
 use Rattle.statics.specs.Modes.{Word, Thing, place}
 use Rattle.statics.specs.Laws.{Lacks}
-use Rattle.statics.specs.Scopes.{Env, Class, record_mode, brick, stored, local, routine, part, Signature, Head, thing, signature, nobody, class_at, component_at, LastOf, Means, Called, Stands, Keeps, Runs, Heads, Shapes, Belongs, Selects}
+use Rattle.statics.specs.Scopes.{Env, Class, record_mode, stored, local, routine, Signature, Head, thing, signature, nobody, class_at, component_at, LastOf, Means, Called, Stands, Keeps, Runs, Heads, Shapes, Belongs, Selects}
 use Rattle.statics.specs.Order.{Span}
 use Rattle.statics.specs.JudgeExpressions.{seek, called_at, look, stands, keeps, runs, heads, shapes, selects}
 use Rattle.statics.proofs.Decide.{Tells, found, none, Judged, lacking}
 use Rattle.statics.proofs.Fit.{tells_like, tells_if, tells_maybe, tells_bind}
 
 last_one : (n : ℕ) (P : ℕ → Type 0) (i j : ℕ) → LastOf n P i → LastOf n P j → i ≡ j
-last_one n P i j a b = go (order i j)
+last_one n P i j a b = go (cases_order i j)
   where
-    order : (i j : ℕ) → (i < j) ⊎ ((j < i) ⊎ (i ≡ j))
-    order i j = grind arith
-
-    go : (i < j) ⊎ ((j < i) ⊎ (i ≡ j)) → i ≡ j
-    go (inl h) = absurd (a.2 j h b.0 b.1)
-    go (inr (inl h)) = absurd (b.2 i h a.0 a.1)
-    go (inr (inr e)) = e
+    go : (i ≡ j) ⊎ ((i < j) ⊎ (j < i)) → i ≡ j
+    go (inl e) = e
+    go (inr (inl h)) = absurd (a.2 j h b.0 b.1)
+    go (inr (inr h)) = absurd (b.2 i h a.0 a.1)
 
 pub seek_tells : (n : ℕ) (P : ℕ → Type 0) (t : ℕ → Bool) → ((k : ℕ) → Decides (t k) (P k)) → Tells (LastOf n P) (seek n t)
 seek_tells zero P t told = none (λ i l. omega (arith, l.0))
@@ -51,59 +49,42 @@ pub look_judged : {A : Type 0} (Γ : Env) (n : ℕ) (P : Class → A → Type 0)
 look_judged Γ n P pick lo hi t s = lacking lo hi (WrongName n) s (tells_bind (λ i. P (class_at Γ i)) _ (called_tells Γ n) (λ i. t (class_at Γ i)))
 
 pub stands_tells : (c : Class) → Tells (Stands c) (stands c)
-stands_tells record_mode = none (λ t x. x)
-stands_tells brick = none (λ t x. x)
 stands_tells (stored t) = found refl (λ u x. x)
 stands_tells (local m) = found refl (λ u x. x)
-stands_tells (routine s) = none (λ t x. x)
-stands_tells part = none (λ t x. x)
+stands_tells _ = none (λ t x. x)
 
 pub keeps_tells : (c : Class) → Tells (Keeps c) (keeps c)
-keeps_tells record_mode = none (λ t x. x)
-keeps_tells brick = none (λ t x. x)
 keeps_tells (stored t) = found refl (λ u x. x)
-keeps_tells (local m) = none (λ t x. x)
-keeps_tells (routine s) = none (λ t x. x)
-keeps_tells part = none (λ t x. x)
+keeps_tells _ = none (λ t x. x)
 
 pub runs_tells : (c : Class) → Tells (Runs c) (runs c)
-runs_tells record_mode = none (λ t x. x)
-runs_tells brick = none (λ t x. x)
-runs_tells (stored t) = none (λ t x. x)
-runs_tells (local m) = none (λ t x. x)
 runs_tells (routine s) = found refl (λ u x. x)
-runs_tells part = none (λ t x. x)
+runs_tells _ = none (λ t x. x)
 
 pub shapes_tells : (c : Class) → Tells (Shapes c) (shapes c)
 shapes_tells record_mode = found tt (λ u x. refl)
-shapes_tells brick = none (λ t x. x)
-shapes_tells (stored t) = none (λ t x. x)
-shapes_tells (local m) = none (λ t x. x)
-shapes_tells (routine s) = none (λ t x. x)
-shapes_tells part = none (λ t x. x)
+shapes_tells _ = none (λ t x. x)
 
 pub heads_tells : (c : Class) → Tells (Heads c) (heads c)
 heads_tells c = go c
   where
-    only : (c : Class) (t : Thing) → ((u : Thing) → Stands c u → u ≡ t) → ((s : Signature) → Runs c s → ⊥) → (h : Head) → Heads c h → h ≡ thing t
-    only c t f g (thing u) x = ap thing (f u x)
-    only c t f g (signature s) x = absurd (g s x)
+    variable : (c : Class) (t : Thing) → ((u : Thing) → Stands c u → u ≡ t) → ((s : Signature) → Runs c s → ⊥) → (h : Head) → Heads c h → h ≡ thing t
+    variable c t f g (thing u) x = ap thing (f u x)
+    variable c t f g (signature s) x = absurd (g s x)
 
-    nowhere : (c : Class) → ((u : Thing) → Stands c u → ⊥) → ((s : Signature) → Runs c s → ⊥) → (h : Head) → Heads c h → ⊥
-    nowhere c f g (thing u) x = f u x
-    nowhere c f g (signature s) x = g s x
+    procedure : (s : Signature) (h : Head) → Heads (routine s) h → h ≡ signature s
+    procedure s (thing u) x = absurd x
+    procedure s (signature u) x = ap signature x
 
-    run : (s : Signature) (h : Head) → Heads (routine s) h → h ≡ signature s
-    run s (thing u) x = absurd x
-    run s (signature u) x = ap signature x
+    neither : (c : Class) → ((u : Thing) → Stands c u → ⊥) → ((s : Signature) → Runs c s → ⊥) → (h : Head) → Heads c h → ⊥
+    neither c f g (thing u) x = f u x
+    neither c f g (signature s) x = g s x
 
     go : (c : Class) → Tells (Heads c) (heads c)
-    go record_mode = none (nowhere record_mode (λ u x. x) (λ s x. x))
-    go brick = none (nowhere brick (λ u x. x) (λ s x. x))
-    go (stored t) = found {a = thing t} refl (only (stored t) t (λ u x. x) (λ s x. x))
-    go (local m) = found {a = thing (place false m)} refl (only (local m) (place false m) (λ u x. x) (λ s x. x))
-    go (routine s) = found {a = signature s} refl (run s)
-    go part = none (nowhere part (λ u x. x) (λ s x. x))
+    go (stored t) = found {a = thing t} refl (variable (stored t) t (λ u x. x) (λ s x. x))
+    go (local m) = found {a = thing (place false m)} refl (variable (local m) (place false m) (λ u x. x) (λ s x. x))
+    go (routine s) = found {a = signature s} refl (procedure s)
+    go c = none (neither c (λ u x. x) (λ s x. x))
 
 pub selects_tells : (Γ : Env) (r : Word) (n : ℕ) → Tells (Selects Γ r n) (selects Γ r n)
 selects_tells Γ r n =

@@ -7,7 +7,7 @@ use Rattle.statics.specs.Refusals.{place_of}
 use Rattle.statics.specs.declared.Refusal.TheVariants.{Misfit, NoValue}
 use Rattle.grammar.specs.Trees.{Expr, Variable, Exprs, Many, one, more, Init, given, Local, Locals, no_locals, locals, Destination, val, Body, body, Sequence, single, sequel, Statement, dummy, block, assign, invoke, invoke_on, branch, branch_else, repeat, loop, return, return_with, Arms, when, elsewhen}
 use Rattle.grammar.specs.Trees as tree
-use Rattle.statics.specs.Modes.{Mode, plain, ref, ref_record, ref_array, INT, mode}
+use Rattle.statics.specs.Modes.{Mode, plain, INT, mode}
 use Rattle.statics.specs.Laws.{Wrongs, At, Both, Lacks, Clean}
 use Rattle.statics.specs.Scopes.{Env, Shapes, after}
 use Rattle.statics.specs.Fronts.{spot, front_variable, front_destination, front_destinations}
@@ -64,9 +64,7 @@ mutual
 -- Locals.
 pub starts_decides : (m : Mode) → Decides (is_plain m) (Starts m tt)
 starts_decides (plain k) = yes tt
-starts_decides (ref k) = no (λ x. x)
-starts_decides (ref_record r) = no (λ x. x)
-starts_decides (ref_array e) = no (λ x. x)
+starts_decides _ = no (λ x. x)
 
 pub name_le : (n lo hi : ℕ) → InName lo n hi → lo ≤ hi
 name_le n lo hi i = omega arith

@@ -1,6 +1,6 @@
 -- What the blocks of a body have, in the order of the text. Assumes nothing.
 use Rattle.std.specs.Prelude.{List, [], ◌++◌}
-use Rattle.grammar.specs.Trees.{Locals, Body, body, Sequence, single, sequel, Statement, dummy, block, assign, invoke, invoke_on, branch, branch_else, repeat, loop, return, return_with, Arms, when, elsewhen}
+use Rattle.grammar.specs.Trees.{Locals, Body, body, Sequence, single, sequel, Statement, block, branch, branch_else, repeat, loop, Arms, when, elsewhen}
 
 -- f of the locals of each block: of a body, and of what stands in it
 abbrev mutual
@@ -12,17 +12,12 @@ abbrev mutual
   inner_blocks f (sequel ss s) = inner_blocks f ss ++ statement_blocks f s
 
   pub statement_blocks : {A : Type 0} → (Locals → List A) → Statement → List A
-  statement_blocks f dummy = []
   statement_blocks f (block b) = blocks f b
-  statement_blocks f (assign ds e) = []
-  statement_blocks f (invoke n i) = []
-  statement_blocks f (invoke_on n i es) = []
   statement_blocks f (branch ws) = arms_blocks f ws
   statement_blocks f (branch_else ws s) = arms_blocks f ws ++ inner_blocks f s
   statement_blocks f (repeat e b) = blocks f b
   statement_blocks f (loop c s) = inner_blocks f s
-  statement_blocks f (return i) = []
-  statement_blocks f (return_with i j e) = []
+  statement_blocks f _ = []
 
   pub arms_blocks : {A : Type 0} → (Locals → List A) → Arms → List A
   arms_blocks f (when c s) = inner_blocks f s

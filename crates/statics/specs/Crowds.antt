@@ -1,8 +1,7 @@
 -- The parameters and locals of a procedure. Assumes nothing.
 use Rattle.std.specs.Prelude.{◌≡◌, ℕ, List, [], ◌∷◌, ◌++◌, map, Some, slice_get}
 use Rattle.statics.specs.declared.Refusal.TheVariants.{TooManyLocals}
-use Rattle.grammar.specs.Trees.{Brick, store, procedure, Moditem, blank, external_procs, external_store, own, entry, Module}
-use Rattle.grammar.specs.Trees as tree
+use Rattle.grammar.specs.Trees.{Brick, store, procedure, Moditem, own, entry, Module}
 use Rattle.statics.specs.Laws.{Wrongs, Wherever, Any}
 use Rattle.statics.specs.Scopes.{Text}
 use Rattle.statics.specs.Written.{gather}
@@ -22,12 +21,9 @@ brick_allowances x (procedure n i ps m b e) =
     record { most = 8; names = given } ∷ record { most = 64; names = given ++ blocks (block_names x) b } ∷ []
 
 abbrev pub moditem_allowances : Text → Moditem → List Allowance
-moditem_allowances x blank = []
-moditem_allowances x (external_procs i ms m ns) = []
-moditem_allowances x (external_store n ds) = []
-moditem_allowances x (tree.record_mode n i fs) = []
 moditem_allowances x (own b) = brick_allowances x b
 moditem_allowances x (entry b) = brick_allowances x b
+moditem_allowances x _ = []
 
 -- p is the first name beyond
 abbrev pub Beyond : Allowance → ℕ → Type 0

@@ -23,12 +23,10 @@ brick_scopes x (store n ds) = []
 brick_scopes x (procedure n i ps m b e) = body_scopes x (map (λ f. f.item) (parameters x ps)) b
 
 abbrev pub moditem_scopes : Text → Moditem → List (List ℕ)
-moditem_scopes x blank = []
-moditem_scopes x (external_procs i ms m ns) = []
-moditem_scopes x (external_store n ds) = []
 moditem_scopes x (tree.record_mode n i fs) = map (λ f. f.item) (fields x fs) ∷ []
 moditem_scopes x (own b) = brick_scopes x b
 moditem_scopes x (entry b) = brick_scopes x b
+moditem_scopes x _ = []
 
 abbrev pub scopes : Text → Module → List (List ℕ)
 scopes x m = items (gather (moditem_names x) m) ∷ gather (moditem_scopes x) m

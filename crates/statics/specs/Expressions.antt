@@ -1,8 +1,8 @@
 -- The rules of expressions and conditions: what a form stands for, and what is wrong with it. Assumes nothing.
 use Rattle.std.specs.Prelude.{◌≡◌, ℕ, suc, Bool, true, false, cond, ◌&&◌, List, [], length, Some, None, Option, slice_get, nat_lt}
 use Rattle.statics.specs.declared.Refusal.TheVariants.{WrongName, Misfit}
-use Rattle.grammar.specs.Trees.{Dyadic, times, divide, modulo, land, lor, nev, plus, minus, Monadic, positive, negative, absolute, complement, narrow, size, Expr, term, up, dyadic, Term, monadic, primary, Primary, integer, text, variable, call, call_on, paren, Variable, name, element, component, Exprs, first, comma, Comparator, equal, unequal, less, at_most, greater, at_least, same_place, other_place, Comparison, compare, Condition, Many, one, more}
-use Rattle.statics.specs.Modes.{int, byte, Mode, plain, ref, ref_record, ref_array, simple, INT, BYTE, Thing, value, Need, mode, number, reference, elements, components, Fits, subscript, referred_record}
+use Rattle.grammar.specs.Trees.{Dyadic, land, lor, nev, Monadic, narrow, size, Expr, term, up, dyadic, Term, monadic, primary, Primary, integer, text, variable, call, call_on, paren, Variable, name, element, component, Exprs, first, comma, Comparator, equal, unequal, same_place, other_place, Comparison, compare, Condition, Many, one, more}
+use Rattle.statics.specs.Modes.{int, byte, Mode, plain, ref_array, simple, INT, BYTE, Thing, value, Need, mode, number, reference, elements, components, Fits, subscript, referred_record}
 use Rattle.statics.specs.Laws.{Wrongs, Never, Both, Under, Lacks, Clean, Pair}
 use Rattle.statics.specs.Scopes.{Env, Class, Signature, Head, thing, signature, Called, Stands, Runs, Heads, Selects}
 use Rattle.statics.specs.Fronts.{front, spot, spot_term, front_variable}
@@ -51,31 +51,20 @@ selected Γ b s c = record {
 
 -- INT for arithmetic; INT or BYTE for the logical operators, which give BYTE on two BYTEs
 abbrev pub operand : {n : ℕ} → Dyadic n → Need
-operand times = mode INT
-operand divide = mode INT
-operand modulo = mode INT
 operand land = number
 operand lor = number
 operand nev = number
-operand plus = mode INT
-operand minus = mode INT
+operand _ = mode INT
 
 abbrev pub is_byte : Mode → Bool
-is_byte (plain int) = false
 is_byte (plain byte) = true
-is_byte (ref k) = false
-is_byte (ref_record r) = false
-is_byte (ref_array e) = false
+is_byte _ = false
 
 abbrev pub result : {n : ℕ} → Dyadic n → Mode → Mode → Mode
-result times m k = INT
-result divide m k = INT
-result modulo m k = INT
 result land m k = cond (is_byte m && is_byte k) BYTE INT
 result lor m k = cond (is_byte m && is_byte k) BYTE INT
 result nev m k = cond (is_byte m && is_byte k) BYTE INT
-result plus m k = INT
-result minus m k = INT
+result _ m k = INT
 
 abbrev pub operated : {n : ℕ} → Dyadic n → Form → ℕ → Form → ℕ → Form
 operated o a s b z = record {
@@ -85,20 +74,12 @@ operated o a s b z = record {
 
 -- LENGTH takes an array or a reference to one, the others INT; BYTE gives BYTE, the others INT
 abbrev pub argument : Monadic → Need
-argument positive = mode INT
-argument negative = mode INT
-argument absolute = mode INT
-argument complement = mode INT
-argument narrow = mode INT
 argument size = elements
+argument _ = mode INT
 
 abbrev pub outcome : Monadic → Mode
-outcome positive = INT
-outcome negative = INT
-outcome absolute = INT
-outcome complement = INT
 outcome narrow = BYTE
-outcome size = INT
+outcome _ = INT
 
 abbrev pub altered : Monadic → Form → ℕ → Form
 altered o a s = record {
@@ -189,22 +170,14 @@ abbrev mutual
 abbrev pub compared : Comparator → Need
 compared equal = number
 compared unequal = number
-compared less = mode INT
-compared at_most = mode INT
-compared greater = mode INT
-compared at_least = mode INT
 compared same_place = reference
 compared other_place = reference
+compared _ = mode INT
 
 abbrev pub Agree : Comparator → Mode → Mode → Type 0
-Agree equal m k = Unit {0}
-Agree unequal m k = Unit {0}
-Agree less m k = Unit {0}
-Agree at_most m k = Unit {0}
-Agree greater m k = Unit {0}
-Agree at_least m k = Unit {0}
 Agree same_place m k = m ≡ k
 Agree other_place m k = m ≡ k
+Agree _ m k = Unit {0}
 
 abbrev pub Operands : Form → Form → Need → Mode × Mode → Type 0
 Operands a b n mk = Gives a n mk.0 × Gives b n mk.1

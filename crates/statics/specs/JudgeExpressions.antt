@@ -3,9 +3,9 @@ use Rattle.std.specs.Prelude.{ℕ, zero, suc, Bool, true, false, cond, ◌&&◌,
 use Rattle.std.specs.Bool.{then_some}
 use Rattle.statics.specs.declared.Refusal.{Refusal}
 use Rattle.statics.specs.declared.Refusal.TheVariants.{WrongName, Misfit}
-use Rattle.grammar.specs.Trees.{Expr, term, up, dyadic, Term, monadic, primary, Primary, integer, text, variable, call, call_on, paren, Variable, name, element, component, Exprs, first, comma, Comparator, equal, unequal, less, at_most, greater, at_least, same_place, other_place, Comparison, compare, Condition, Many, one, more}
+use Rattle.grammar.specs.Trees.{Expr, term, up, dyadic, Term, monadic, primary, Primary, integer, text, variable, call, call_on, paren, Variable, name, element, component, Exprs, first, comma, Comparator, same_place, other_place, Comparison, compare, Condition, Many, one, more}
 use Rattle.statics.specs.Modes.{Word, Plain, int, byte, Mode, plain, ref, ref_record, ref_array, Element, simple, records, INT, Thing, value, place, array, structure, Need, mode, number, reference, elements, components, scalar, pointed, subscript, referred_record}
-use Rattle.statics.specs.Scopes.{Env, same_word, Class, record_mode, brick, stored, local, routine, part, Signature, Head, thing, signature, nobody, class_at, component_at}
+use Rattle.statics.specs.Scopes.{Env, same_word, Class, record_mode, stored, local, routine, Signature, Head, thing, signature, nobody, class_at, component_at}
 use Rattle.statics.specs.Fronts.{front, spot, spot_term, front_variable}
 use Rattle.statics.specs.Expressions.{operand, result, argument, outcome, count, figure, string_thing, compared}
 
@@ -21,92 +21,63 @@ check b f = ok_or (then_some b tt) f
 -- Equality of modes.
 abbrev pub same_plain : Plain → Plain → Bool
 same_plain int int = true
-same_plain int byte = false
-same_plain byte int = false
 same_plain byte byte = true
+same_plain _ _ = false
 
 abbrev mutual
   pub same_mode : Mode → Mode → Bool
   same_mode (plain k) (plain l) = same_plain k l
-  same_mode (plain k) (ref l) = false
-  same_mode (plain k) (ref_record r) = false
-  same_mode (plain k) (ref_array e) = false
-  same_mode (ref k) (plain l) = false
   same_mode (ref k) (ref l) = same_plain k l
-  same_mode (ref k) (ref_record r) = false
-  same_mode (ref k) (ref_array e) = false
-  same_mode (ref_record r) (plain l) = false
-  same_mode (ref_record r) (ref l) = false
   same_mode (ref_record r) (ref_record s) = same_word r s
-  same_mode (ref_record r) (ref_array e) = false
-  same_mode (ref_array e) (plain l) = false
-  same_mode (ref_array e) (ref l) = false
-  same_mode (ref_array e) (ref_record s) = false
   same_mode (ref_array e) (ref_array f) = same_element e f
+  same_mode _ _ = false
 
   pub same_element : Element → Element → Bool
   same_element (simple m) (simple k) = same_mode m k
-  same_element (simple m) (records r) = false
-  same_element (records r) (simple k) = false
   same_element (records r) (records s) = same_word r s
+  same_element _ _ = false
 
 -- the plain mode, and the REF mode, that something offers
 abbrev pub plain_of : Mode → Option Plain
 plain_of (plain k) = Some k
 plain_of (ref k) = Some k
-plain_of (ref_record r) = None
-plain_of (ref_array e) = None
+plain_of _ = None
 
 abbrev pub number_of : Thing → Option Plain
 number_of (value m) = plain_of m
 number_of (place b m) = plain_of m
-number_of (array e) = None
-number_of (structure r) = None
+number_of _ = None
 
 abbrev pub ref_of : Thing → Option Mode
 ref_of (value (plain k)) = None
-ref_of (value (ref k)) = Some (ref k)
-ref_of (value (ref_record r)) = Some (ref_record r)
-ref_of (value (ref_array e)) = Some (ref_array e)
+ref_of (value m) = Some m
 ref_of (place b (plain k)) = then_some b (ref k)
-ref_of (place b (ref k)) = Some (ref k)
-ref_of (place b (ref_record r)) = Some (ref_record r)
-ref_of (place b (ref_array e)) = Some (ref_array e)
+ref_of (place b m) = Some m
 ref_of (array e) = Some (ref_array e)
 ref_of (structure r) = Some (ref_record r)
 
 abbrev pub widens : Plain → Plain → Bool
-widens int int = true
 widens int byte = false
-widens byte int = true
-widens byte byte = true
+widens _ _ = true
 
 abbrev pub only_array : Mode → Option Mode
-only_array (plain k) = None
-only_array (ref k) = None
-only_array (ref_record r) = None
 only_array (ref_array e) = Some (ref_array e)
+only_array _ = None
 
 abbrev pub only_record : Mode → Option Mode
-only_record (plain k) = None
-only_record (ref k) = None
 only_record (ref_record r) = Some (ref_record r)
-only_record (ref_array e) = None
+only_record _ = None
 
 abbrev pub fit_ref : Mode → Thing → Option Mode
 fit_ref m t = option_and_then (λ k. then_some (same_mode k m) m) (ref_of t)
 
 abbrev pub fit_mode : Mode → Thing → Option Mode
 fit_mode (plain l) t = option_and_then (λ k. then_some (widens k l) (plain l)) (number_of t)
-fit_mode (ref k) t = fit_ref (ref k) t
-fit_mode (ref_record r) t = fit_ref (ref_record r) t
-fit_mode (ref_array e) t = fit_ref (ref_array e) t
+fit_mode m t = fit_ref m t
 
 abbrev pub pointed_at : Mode → Option Mode
-pointed_at (plain k) = None
 pointed_at (ref k) = Some (plain k)
-pointed_at (ref_record r) = None
-pointed_at (ref_array e) = None
+pointed_at _ = None
 
 abbrev pub fit : Need → Thing → Option Mode
 fit (mode m) t = fit_mode m t
@@ -114,14 +85,9 @@ fit number t = option_map plain (number_of t)
 fit reference t = ref_of t
 fit elements t = option_and_then only_array (ref_of t)
 fit components t = option_and_then only_record (ref_of t)
-fit scalar (value m) = None
 fit scalar (place b m) = Some m
-fit scalar (array e) = None
-fit scalar (structure r) = None
-fit pointed (value m) = None
 fit pointed (place b m) = pointed_at m
-fit pointed (array e) = None
-fit pointed (structure r) = None
+fit _ _ = None
 
 -- what is right, brought to what is needed
 abbrev pub bring : Need → ℕ → Result Thing Refusal → Result Mode Refusal
@@ -140,44 +106,27 @@ abbrev pub look : {A : Type 0} → Env → ℕ → (Class → Option A) → Resu
 look Γ n pick = ok_or (option_and_then (λ i. pick (class_at Γ i)) (called_at Γ n)) (WrongName n)
 
 abbrev pub stands : Class → Option Thing
-stands record_mode = None
-stands brick = None
 stands (stored t) = Some t
 stands (local m) = Some (place false m)
-stands (routine s) = None
-stands part = None
+stands _ = None
 
 abbrev pub keeps : Class → Option Thing
-keeps record_mode = None
-keeps brick = None
 keeps (stored t) = Some t
-keeps (local m) = None
-keeps (routine s) = None
-keeps part = None
+keeps _ = None
 
 abbrev pub runs : Class → Option Signature
-runs record_mode = None
-runs brick = None
-runs (stored t) = None
-runs (local m) = None
 runs (routine s) = Some s
-runs part = None
+runs _ = None
 
 abbrev pub heads : Class → Option Head
-heads record_mode = None
-heads brick = None
 heads (stored t) = Some (thing t)
 heads (local m) = Some (thing (place false m))
 heads (routine s) = Some (signature s)
-heads part = None
+heads _ = None
 
 abbrev pub shapes : Class → Option (Unit {0})
 shapes record_mode = Some tt
-shapes brick = None
-shapes (stored t) = None
-shapes (local m) = None
-shapes (routine s) = None
-shapes part = None
+shapes _ = None
 
 abbrev pub selects : Env → Word → ℕ → Option Thing
 selects Γ r n = option_map (λ i. place true (component_at Γ i).mode) (seek (length Γ.parts) (λ k. same_word (component_at Γ k).owner r && same_word (component_at Γ k).word (Γ.text.word n)))
@@ -247,14 +196,9 @@ abbrev mutual
   judge_args Γ ms (comma es e) = then (judge_args Γ ms es) (λ u. pass (judge Γ e) (spot e) (slice_get ms (count es)))
 
 abbrev pub agree : Comparator → Mode → Mode → Bool
-agree equal m k = true
-agree unequal m k = true
-agree less m k = true
-agree at_most m k = true
-agree greater m k = true
-agree at_least m k = true
 agree same_place m k = same_mode m k
 agree other_place m k = same_mode m k
+agree _ m k = true
 
 abbrev pub judge_comparison : Env → Comparison → Result (Unit {0}) Refusal
 judge_comparison Γ (compare a o b) = then (bring (compared o) (spot a) (judge Γ a)) (λ m. then (bring (compared o) (spot b) (judge Γ b)) (λ k. check (agree o m k) (Misfit (front a))))

@@ -7,7 +7,7 @@ use Rattle.statics.specs.declared.Refusal.{Refusal}
 use Rattle.statics.specs.declared.Refusal.TheVariants.{WrongName, Misfit, NoValue}
 use Rattle.grammar.specs.Trees.{Value, constant, signed, minus_signed, identifier, string, empty_list, list, Values, only, and, Entry, once, repeated, Many, one, more, Opt, Fields, also, Init, given, Dec, variables, arrays, structures, Brick, store, procedure, Moditem, blank, external_procs, external_store, own, entry, Module}
 use Rattle.grammar.specs.Trees as tree
-use Rattle.statics.specs.Modes.{Word, int, byte, plain, ref, ref_record, ref_array, Element, simple, records, INT, BYTE, Thing}
+use Rattle.statics.specs.Modes.{Word, int, byte, plain, ref_array, Element, simple, records, INT, BYTE, Thing}
 use Rattle.statics.specs.Scopes.{Text, Env, same_word, Signature, record_modes}
 use Rattle.statics.specs.Written.{mode_of, element_of}
 use Rattle.statics.specs.Values.{Want, free, simply, several, recorded, inner, address_mode, total, how_many, front_value}
@@ -18,19 +18,13 @@ use Rattle.statics.specs.JudgeStatements.{judge_record_name, judge_written, judg
 abbrev pub takes_integer : Want → Bool → ℕ → Bool
 takes_integer free s v = true
 takes_integer (simply (plain int)) s v = true
-takes_integer (simply (plain byte)) true v = false
 takes_integer (simply (plain byte)) false v = nat_lt v 256
-takes_integer (simply (ref k)) s v = false
-takes_integer (simply (ref_record r)) s v = false
-takes_integer (simply (ref_array e)) s v = false
-takes_integer (several n e) s v = false
-takes_integer (recorded r) s v = false
+takes_integer _ s v = false
 
 abbrev pub takes_name : Want → Thing → Bool
 takes_name free t = true
 takes_name (simply m) t = option_eq same_mode (address_mode t) (Some m)
-takes_name (several n e) t = false
-takes_name (recorded r) t = false
+takes_name _ t = false
 
 abbrev pub takes_string : Want → ℕ → Bool
 takes_string free k = true
@@ -45,10 +39,8 @@ takes_list Γ (several l e) k n = n == l
 takes_list Γ (recorded r) k n = k == length (record_modes Γ.parts r)
 
 abbrev pub repeats : Want → Bool
-repeats free = true
-repeats (simply m) = true
-repeats (several n e) = true
 repeats (recorded r) = false
+repeats _ = true
 
 abbrev mutual
   pub judge_value : Env → Want → Value → Result (Unit {0}) Refusal

@@ -5,7 +5,7 @@ use Rattle.statics.specs.declared.Refusal.{Refusal}
 use Rattle.statics.specs.declared.Refusal.TheVariants.{Misfit, NoValue}
 use Rattle.grammar.specs.Trees.{Expr, Variable, Exprs, Many, one, more, Init, given, Local, Locals, no_locals, locals, Destination, val, Body, body, Sequence, single, sequel, Statement, dummy, block, assign, invoke, invoke_on, branch, branch_else, repeat, loop, return, return_with, Arms, when, elsewhen}
 use Rattle.grammar.specs.Trees as tree
-use Rattle.statics.specs.Modes.{Mode, plain, ref, ref_record, ref_array, INT, Thing, mode}
+use Rattle.statics.specs.Modes.{Mode, plain, INT, Thing, mode}
 use Rattle.statics.specs.Scopes.{Env, after}
 use Rattle.statics.specs.Fronts.{spot, front_variable, front_destinations}
 use Rattle.statics.specs.Expressions.{count}
@@ -36,9 +36,7 @@ judge_into (Some m) p r s = then (bring (mode m) s r) done
 
 abbrev pub is_plain : Mode → Bool
 is_plain (plain k) = true
-is_plain (ref k) = false
-is_plain (ref_record r) = false
-is_plain (ref_array e) = false
+is_plain _ = false
 
 abbrev pub judge_local_item : Env → Mode → Init (Expr 5) → Result (Unit {0}) Refusal
 judge_local_item Γ m (tree.plain n) = check (is_plain m) (NoValue n)

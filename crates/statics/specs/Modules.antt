@@ -61,12 +61,8 @@ moditem_names x (own b) = brick_names x b
 moditem_names x (entry b) = brick_names x b
 
 abbrev pub moditem_parts : Text → Moditem → List Component
-moditem_parts x blank = []
-moditem_parts x (external_procs i ms m ns) = []
-moditem_parts x (external_store n ds) = []
 moditem_parts x (tree.record_mode n i fs) = map (λ f. record { owner = x.word n; word = x.word f.item; mode = f.mode }) (fields x fs)
-moditem_parts x (own b) = []
-moditem_parts x (entry b) = []
+moditem_parts x _ = []
 
 -- all names of a module are declared before any construct is judged
 abbrev pub module_env : Text → Module → Env

@@ -67,36 +67,21 @@ Called Γ n P a = (i : ℕ) × Means Γ n i × P (class_at Γ i) a
 
 -- What the name of a variable stands for; of a data variable; what a procedure's name has; whether it is a record mode's.
 abbrev pub Stands : Class → Thing → Type 0
-Stands record_mode u = ⊥
-Stands brick u = ⊥
 Stands (stored t) u = u ≡ t
 Stands (local m) u = u ≡ place false m
-Stands (routine s) u = ⊥
-Stands part u = ⊥
+Stands _ u = ⊥
 
 abbrev pub Keeps : Class → Thing → Type 0
-Keeps record_mode u = ⊥
-Keeps brick u = ⊥
 Keeps (stored t) u = u ≡ t
-Keeps (local m) u = ⊥
-Keeps (routine s) u = ⊥
-Keeps part u = ⊥
+Keeps _ u = ⊥
 
 abbrev pub Runs : Class → Signature → Type 0
-Runs record_mode u = ⊥
-Runs brick u = ⊥
-Runs (stored t) u = ⊥
-Runs (local m) u = ⊥
 Runs (routine s) u = u ≡ s
-Runs part u = ⊥
+Runs _ u = ⊥
 
 abbrev pub Shapes : Class → Unit {0} → Type 0
 Shapes record_mode u = Unit {0}
-Shapes brick u = ⊥
-Shapes (stored t) u = ⊥
-Shapes (local m) u = ⊥
-Shapes (routine s) u = ⊥
-Shapes part u = ⊥
+Shapes _ u = ⊥
 
 -- before brackets with one expression: a variable or a procedure
 pub data Head : Type 0 where

@@ -3,7 +3,7 @@ use Rattle.std.specs.Prelude.{◌≡◌, ℕ, ◌⊎◌, List, [], ◌++◌, map
 use Rattle.statics.specs.declared.Refusal.TheVariants.{Misfit, NoValue}
 use Rattle.grammar.specs.Trees.{Expr, Variable, Exprs, Many, one, more, Init, given, Local, Locals, no_locals, locals, Destination, val, Body, body, Sequence, single, sequel, Statement, dummy, block, assign, invoke, invoke_on, branch, branch_else, repeat, loop, return, return_with, Arms, when, elsewhen}
 use Rattle.grammar.specs.Trees as tree
-use Rattle.statics.specs.Modes.{Mode, plain, ref, ref_record, ref_array, INT, Need, mode, scalar, pointed}
+use Rattle.statics.specs.Modes.{Mode, plain, INT, Need, mode, scalar, pointed}
 use Rattle.statics.specs.Laws.{Wrongs, Never, At, Both, Under, Lacks, Clean}
 use Rattle.statics.specs.Scopes.{Text, Env, local, after, inside_of}
 use Rattle.statics.specs.Fronts.{spot, front_variable, front_destinations}
@@ -18,9 +18,7 @@ into (Some m) p x s = Off x s (mode m)
 -- A local without a value: wrong unless its mode is plain.
 abbrev pub Starts : Mode → Unit {0} → Type 0
 Starts (plain k) u = Unit {0}
-Starts (ref k) u = ⊥
-Starts (ref_record r) u = ⊥
-Starts (ref_array e) u = ⊥
+Starts _ u = ⊥
 
 -- A list item; before its value none of its names can be used, nor those behind it.
 abbrev pub local_item : Env → Mode → Init (Expr 5) → Wrongs

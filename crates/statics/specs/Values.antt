@@ -3,7 +3,7 @@ use Rattle.std.specs.Prelude.{◌≡◌, ℕ, suc, ◌+◌, ◌<◌, Bool, true,
 use Rattle.statics.specs.declared.Refusal.{Refusal}
 use Rattle.statics.specs.declared.Refusal.TheVariants.{WrongName, Misfit}
 use Rattle.grammar.specs.Trees.{Value, constant, signed, minus_signed, identifier, string, empty_list, list, Values, only, and, Entry, once, repeated}
-use Rattle.statics.specs.Modes.{Word, int, byte, Mode, plain, ref, ref_record, ref_array, Element, simple, records, BYTE, Thing, value, place, array, structure}
+use Rattle.statics.specs.Modes.{Word, int, byte, Mode, plain, ref, ref_record, ref_array, Element, simple, records, BYTE, Thing, place, array, structure}
 use Rattle.statics.specs.Laws.{Wrongs, Both, Under, Lacks, Clean}
 use Rattle.statics.specs.Scopes.{Env, Called, Keeps, record_modes}
 use Rattle.statics.specs.Statements.{Starts}
@@ -25,38 +25,29 @@ component_want None = free
 component_want (Some m) = simply m
 
 abbrev pub inner : Env → Want → ℕ → Want
-inner Γ free k = free
-inner Γ (simply m) k = free
 inner Γ (several n e) k = element_want e
 inner Γ (recorded r) k = component_want (slice_get (record_modes Γ.parts r) k)
+inner Γ _ k = free
 
 -- An integer: for INT any, for BYTE one up to 255 without a sign.
 abbrev pub TakesInteger : Want → Bool → ℕ → Unit {0} → Type 0
 TakesInteger free s v u = Unit {0}
 TakesInteger (simply (plain int)) s v u = Unit {0}
 TakesInteger (simply (plain byte)) s v u = (s ≡ false) × (v < 256)
-TakesInteger (simply (ref k)) s v u = ⊥
-TakesInteger (simply (ref_record r)) s v u = ⊥
-TakesInteger (simply (ref_array e)) s v u = ⊥
-TakesInteger (several n e) s v u = ⊥
-TakesInteger (recorded r) s v u = ⊥
+TakesInteger _ s v u = ⊥
 
 -- the mode of a reference to what a data variable's name stands for
 abbrev pub address_mode : Thing → Option Mode
-address_mode (value m) = None
 address_mode (place b (plain k)) = Some (ref k)
-address_mode (place b (ref k)) = None
-address_mode (place b (ref_record r)) = None
-address_mode (place b (ref_array e)) = None
 address_mode (array e) = Some (ref_array e)
 address_mode (structure r) = Some (ref_record r)
+address_mode _ = None
 
 -- A name gives its address, never its contents.
 abbrev pub TakesName : Want → Thing → Unit {0} → Type 0
 TakesName free t u = Unit {0}
 TakesName (simply m) t u = address_mode t ≡ Some m
-TakesName (several n e) t u = ⊥
-TakesName (recorded r) t u = ⊥
+TakesName _ t u = ⊥
 
 -- A string: for REF ARRAY BYTE, or for an array of exactly as many BYTEs.
 abbrev pub TakesString : Want → ℕ → Unit {0} → Type 0
@@ -74,10 +65,8 @@ TakesList Γ (recorded r) k n u = k ≡ length (record_modes Γ.parts r)
 
 -- In a record's list no value is repeated.
 abbrev pub Repeats : Want → Unit {0} → Type 0
-Repeats free u = Unit {0}
-Repeats (simply m) u = Unit {0}
-Repeats (several n e) u = Unit {0}
 Repeats (recorded r) u = ⊥
+Repeats _ u = Unit {0}
 
 abbrev pub times : (ℕ → ℕ) → Entry → ℕ
 times f (once v) = 1
