@@ -6,7 +6,7 @@ use Rattle.std.proofs.lemmas.Bool.Decides.{Decides-like, not_from_Decides}
 use Rattle.std.proofs.lemmas.Slice.Eq.{bytes_eq-Decides}
 use Rattle.statics.specs.Laws.{Pair}
 use Rattle.statics.specs.Modes.{Word, Plain, int, byte, Mode, plain, ref, ref_record, ref_array, Element, simple, records, Thing, value, place, array, structure, Offers, itself, referred, contents, contents_referred, address, array_address, record_address, Widens, alike, wider, Reference, Need, mode, number, reference, elements, components, scalar, pointed, Fits, widened, wanted, a_number, a_reference, an_array, a_record, a_place, a_pointer}
-use Rattle.statics.specs.JudgeExpressions.{same_plain, same_mode, same_element, plain_of, number_of, ref_of, widens, only_array, only_record, fit_ref, fit_mode, fit}
+use Rattle.statics.specs.JudgeExpressions.{same_plain, same_mode, same_element, number_of, ref_of, widens, only_array, only_record, fit_ref, fit_mode, fit}
 use Rattle.statics.proofs.Decide.{Tells, found, none}
 
 -- a test that passes, and one that fails
@@ -71,11 +71,7 @@ Refers t m = (n : ℕ) × Offers t m n × Reference m
 
 -- the plain mode that something offers is the one that number_of finds
 number_only : {t : Thing} {m : Mode} {n : ℕ} → Offers t m n → (k : Plain) → m ≡ plain k → number_of t ≡ Some k
-number_only itself k e = ap plain_of e
-number_only referred k e = ap plain_of e
-number_only contents k e = ap plain_of e
-number_only contents_referred k e = ap plain_of e
-number_only _ k e = let z : ⊥ = grind arith in absurd z
+number_only o k e = grind arith
 
 one_number : {t : Thing} {l : Plain} → number_of t ≡ Some l → (k : Plain) → Numeric t k → k ≡ l
 one_number e k x = let y = number_only x.1 k refl in cc
@@ -92,11 +88,7 @@ number_tells _ = none (no_number refl)
 
 -- the reference that something offers is the one that ref_of finds
 ref_only : {t : Thing} {m : Mode} {n : ℕ} → Offers t m n → Reference m → ref_of t ≡ Some m
-ref_only (itself {m = plain k}) r = absurd r
-ref_only referred r = absurd r
-ref_only (contents {m = plain k}) r = absurd r
-ref_only contents_referred r = absurd r
-ref_only _ r = refl
+ref_only o r = grind arith
 
 one_ref : {t : Thing} {m : Mode} → ref_of t ≡ Some m → (k : Mode) → Refers t k → k ≡ m
 one_ref e k x = let y = ref_only x.1 x.2 in cc
@@ -120,17 +112,13 @@ widens_decides byte int = yes wider
 widens_decides byte byte = yes alike
 
 wanted_back : {m c : Mode} {t : Thing} → Fits (mode m) t c → Reference m → Pair (Refers t) (λ k c. (k ≡ m) × (c ≡ m)) c
-wanted_back (widened o w) r = absurd r
-wanted_back (wanted {m = m} {n = n} o k) r = (m, (n, o, k), (refl, refl))
+wanted_back f r = grind arith
 
 fit_ref_tells : (m : Mode) (t : Thing) → Reference m → Tells (Fits (mode m) t) (fit_ref m t)
-fit_ref_tells m t r = tells_like _ to back (tells_bind (λ k c. (k ≡ m) × (c ≡ m)) _ (ref_tells t) (λ k. tells_if _ m (same_mode_decides k m)))
+fit_ref_tells m t r = tells_like _ to (λ c f. wanted_back f r) (tells_bind (λ k c. (k ≡ m) × (c ≡ m)) _ (ref_tells t) (λ k. tells_if _ m (same_mode_decides k m)))
   where
     to : (c : Mode) → Pair (Refers t) (λ k c. (k ≡ m) × (c ≡ m)) c → Fits (mode m) t c
     to c x = rw x.2.1 (wanted (rw x.2.0 at x.1.1) r)
-
-    back : (c : Mode) → Fits (mode m) t c → Pair (Refers t) (λ k c. (k ≡ m) × (c ≡ m)) c
-    back c f = wanted_back f r
 
 mode_tells : (m : Mode) (t : Thing) → Tells (Fits (mode m) t) (fit_mode m t)
 mode_tells (plain l) t = tells_like _ to back (tells_bind (λ k c. Widens k l × (c ≡ plain l)) _ (number_tells t) (λ k. tells_if _ (plain l) (widens_decides k l)))

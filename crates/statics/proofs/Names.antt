@@ -1,13 +1,13 @@
 -- What a name means. Assumes nothing.
-use Rattle.std.proofs.Common.{◌≡◌, ℕ, zero, suc, ◌<◌, Bool, true, false, cond, ◌⊎◌, length, get_or, Some, Option, refl, ap, subst, inl, inr, arith}
+use Rattle.std.proofs.Common.{◌≡◌, ℕ, zero, suc, ◌<◌, Bool, true, false, cond, ◌⊎◌, length, get_or, Some, Option, refl, subst, inl, inr, arith}
 use Rattle.std.specs.Bool.{Decides}
 use Rattle.std.proofs.lemmas.Bool.{cases_order}
 use Rattle.std.proofs.lemmas.Bool.Decides.{Decides-and, Decides-ltb, not_from_Decides}
 use Rattle.std.proofs.lemmas.Slice.Eq.{bytes_eq-Decides}
 use Rattle.statics.specs.declared.Refusal.TheVariants.{WrongName}
-use Rattle.statics.specs.Modes.{Word, Thing, place}
+use Rattle.statics.specs.Modes.{Word, place}
 use Rattle.statics.specs.Laws.{Lacks}
-use Rattle.statics.specs.Scopes.{Env, Class, record_mode, stored, local, routine, Signature, Head, thing, signature, nobody, class_at, component_at, LastOf, Means, Called, Stands, Keeps, Runs, Heads, Shapes, Belongs, Selects}
+use Rattle.statics.specs.Scopes.{Env, Class, record_mode, stored, local, routine, thing, signature, nobody, class_at, component_at, LastOf, Means, Called, Stands, Keeps, Runs, Heads, Shapes, Belongs, Selects}
 use Rattle.statics.specs.Order.{Span}
 use Rattle.statics.specs.JudgeExpressions.{seek, called_at, look, stands, keeps, runs, heads, shapes, selects}
 use Rattle.statics.proofs.Decide.{Tells, found, none, Judged, lacking}
@@ -66,25 +66,10 @@ shapes_tells record_mode = found tt (λ u x. refl)
 shapes_tells _ = none (λ t x. x)
 
 pub heads_tells : (c : Class) → Tells (Heads c) (heads c)
-heads_tells c = go c
-  where
-    variable : (c : Class) (t : Thing) → ((u : Thing) → Stands c u → u ≡ t) → ((s : Signature) → Runs c s → ⊥) → (h : Head) → Heads c h → h ≡ thing t
-    variable c t f g (thing u) x = ap thing (f u x)
-    variable c t f g (signature s) x = absurd (g s x)
-
-    procedure : (s : Signature) (h : Head) → Heads (routine s) h → h ≡ signature s
-    procedure s (thing u) x = absurd x
-    procedure s (signature u) x = ap signature x
-
-    neither : (c : Class) → ((u : Thing) → Stands c u → ⊥) → ((s : Signature) → Runs c s → ⊥) → (h : Head) → Heads c h → ⊥
-    neither c f g (thing u) x = f u x
-    neither c f g (signature s) x = g s x
-
-    go : (c : Class) → Tells (Heads c) (heads c)
-    go (stored t) = found {a = thing t} refl (variable (stored t) t (λ u x. x) (λ s x. x))
-    go (local m) = found {a = thing (place false m)} refl (variable (local m) (place false m) (λ u x. x) (λ s x. x))
-    go (routine s) = found {a = signature s} refl (procedure s)
-    go c = none (neither c (λ u x. x) (λ s x. x))
+heads_tells (stored t) = found {a = thing t} refl (λ h x. grind arith)
+heads_tells (local m) = found {a = thing (place false m)} refl (λ h x. grind arith)
+heads_tells (routine s) = found {a = signature s} refl (λ h x. grind arith)
+heads_tells c = none (λ h x. grind arith)
 
 pub selects_tells : (Γ : Env) (r : Word) (n : ℕ) → Tells (Selects Γ r n) (selects Γ r n)
 selects_tells Γ r n =
