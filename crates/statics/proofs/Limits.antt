@@ -1,10 +1,8 @@
 -- The stages with one number, and their order. Assumes nothing.
 use Rattle.std.proofs.Common.{◌≡◌, ℕ, ◌+◌, ◌<◌, ◌≤◌, Bool, true, false, cond, ◌⊎◌, List, [], ◌∷◌, ◌++◌, Some, None, Ok, Err, Option, Result, sym, refl, ap, ◌∙◌, inl, inr, arith}
 use Rattle.std.specs.Prelude.{flat_map, option_to_list, slice_get, ltb}
-use Rattle.std.specs.Bool.{Decides}
 use Rattle.std.proofs.Math.Nat.{eq-or-lt_of_le}
 use Rattle.std.proofs.lemmas.Bool.{ltb-true, ltb-false}
-use Rattle.std.proofs.lemmas.Bool.Decides.{not_from_Decides}
 use Rattle.std.proofs.lemmas.Slice.Eq.{bytes_eq-Decides}
 use Rattle.statics.specs.declared.Refusal.{Refusal}
 use Rattle.statics.specs.declared.Refusal.TheVariants.{DeclaredTwice, WrongName, Misfit, NoValue, TooManyPlaces, TooManyLocals}
@@ -29,26 +27,21 @@ abbrev Among : ℕ → List ℕ → Type 0
 Among p l = Any (λ q. p ≡ q) l
 
 any_more : {A : Type 0} (P : A → Type 0) (l k : List A) → Any P l ⊎ Any P k → Any P (l ++ k)
-any_more P [] k (inl x) = absurd x
-any_more P [] k (inr y) = y
-any_more P (a ∷ l) k (inl (inl x)) = inl x
-any_more P (a ∷ l) k (inl (inr x)) = inr (any_more P l k (inl x))
-any_more P (a ∷ l) k (inr y) = inr (any_more P l k (inr y))
+any_more P [] k x = grind arith
+any_more P (a ∷ l) k x = grind (arith, any_more P l k)
 
 any_parts : {A : Type 0} (P : A → Type 0) (l k : List A) → Any P (l ++ k) → Any P l ⊎ Any P k
-any_parts P [] k x = inr x
-any_parts P (a ∷ l) k (inl x) = inl (inl x)
-any_parts P (a ∷ l) k (inr x) = elim (any_parts P l k x) [ inl y ↦ inl (inr y) | inr y ↦ inr y ]
+any_parts P [] k x = grind arith
+any_parts P (a ∷ l) k x = grind (arith, any_parts P l k)
 
 -- each of what f lists of some a, where P a says the same
 to_flat : {A : Type 0} (P : A → ℕ → Type 0) (f : A → List ℕ) → ((a : A) (p : ℕ) → P a p → Among p (f a)) → (l : List A) (p : ℕ) → Any (λ a. P a p) l → Among p (flat_map f l)
 to_flat P f g [] p x = x
-to_flat P f g (a ∷ l) p (inl x) = any_more _ (f a) (flat_map f l) (inl (g a p x))
-to_flat P f g (a ∷ l) p (inr x) = any_more _ (f a) (flat_map f l) (inr (to_flat P f g l p x))
+to_flat P f g (a ∷ l) p x = grind (arith, g a p, to_flat P f g l p, any_more (λ q. p ≡ q) (f a) (flat_map f l))
 
 of_flat : {A : Type 0} (P : A → ℕ → Type 0) (f : A → List ℕ) → ((a : A) (p : ℕ) → Among p (f a) → P a p) → (l : List A) (p : ℕ) → Among p (flat_map f l) → Any (λ a. P a p) l
 of_flat P f g [] p x = x
-of_flat P f g (a ∷ l) p x = elim (any_parts _ (f a) (flat_map f l) x) [ inl y ↦ inl (g a p y) | inr y ↦ inr (of_flat P f g l p y) ]
+of_flat P f g (a ∷ l) p x = grind (arith, g a p, of_flat P f g l p, any_parts (λ q. p ≡ q) (f a) (flat_map f l))
 
 -- the least
 pub data Least (l : List ℕ) : Option ℕ → Type 0 where
@@ -90,31 +83,19 @@ Alike x n l p = Any (λ q. (p ≡ q) × (x.word q ≡ x.word n)) l
 
 alike_to : (x : Text) (n : ℕ) (l : List ℕ) (p : ℕ) → Alike x n l p → Among p (alike_in x n l)
 alike_to x n [] p h = h
-alike_to x n (q ∷ l) p h = go _ (bytes_eq-Decides (x.word q) (x.word n)) (alike_to x n l p) h
-  where
-    go : (b : Bool) → Decides b (x.word q ≡ x.word n) → (Alike x n l p → Among p (alike_in x n l)) → Alike x n (q ∷ l) p → Among p (cond b (q ∷ alike_in x n l) (alike_in x n l))
-    go true d f (inl y) = inl y.0
-    go true d f (inr y) = inr (f y)
-    go false d f (inl y) = absurd (not_from_Decides false d refl y.1)
-    go false d f (inr y) = f y
+alike_to x n (q ∷ l) p h = grind (arith, bytes_eq-Decides (x.word q) (x.word n), alike_to x n l p)
 
 alike_of : (x : Text) (n : ℕ) (l : List ℕ) (p : ℕ) → Among p (alike_in x n l) → Alike x n l p
 alike_of x n [] p h = h
-alike_of x n (q ∷ l) p h = go _ (bytes_eq-Decides (x.word q) (x.word n)) (alike_of x n l p) h
-  where
-    go : (b : Bool) → Decides b (x.word q ≡ x.word n) → (Among p (alike_in x n l) → Alike x n l p) → Among p (cond b (q ∷ alike_in x n l) (alike_in x n l)) → Alike x n (q ∷ l) p
-    go true d f (inl y) = inl (y, d.0 refl)
-    go true d f (inr y) = inr (f y)
-    go false d f y = inr (f y)
+alike_of x n (q ∷ l) p h = grind (arith, bytes_eq-Decides (x.word q) (x.word n), alike_of x n l p)
 
 doubles_to : (x : Text) (l : List ℕ) (p : ℕ) → Twice x l p → Among p (doubles x l)
 doubles_to x [] p h = h
-doubles_to x (n ∷ l) p (inl h) = any_more _ (alike_in x n l) (doubles x l) (inl (alike_to x n l p h))
-doubles_to x (n ∷ l) p (inr h) = any_more _ (alike_in x n l) (doubles x l) (inr (doubles_to x l p h))
+doubles_to x (n ∷ l) p h = grind (arith, alike_to x n l p, doubles_to x l p, any_more (λ q. p ≡ q) (alike_in x n l) (doubles x l))
 
 doubles_of : (x : Text) (l : List ℕ) (p : ℕ) → Among p (doubles x l) → Twice x l p
 doubles_of x [] p h = h
-doubles_of x (n ∷ l) p h = elim (any_parts _ (alike_in x n l) (doubles x l) h) [ inl y ↦ inl (alike_of x n l p y) | inr y ↦ inr (doubles_of x l p y) ]
+doubles_of x (n ∷ l) p h = grind (arith, alike_of x n l p, doubles_of x l p, any_parts (λ q. p ≡ q) (alike_in x n l) (doubles x l))
 
 pub twice_right : (x : Text) (m : Module) → Verdict (Clean (twice_wrongs x m)) (twice_wrongs x m) (judge_twice x m)
 twice_right x m = least_verdict DeclaredTwice (λ p. refl) _ _ (to_flat (Twice x) (doubles x) (doubles_to x) (scopes x m)) (of_flat (Twice x) (doubles x) (doubles_of x) (scopes x m))
@@ -134,13 +115,10 @@ space_right x m = one_verdict TooManyPlaces _ (passing_tells 4096 0 (charges x m
 
 -- Locals.
 option_to : (o : Option ℕ) (p : ℕ) → o ≡ Some p → Among p (option_to_list o)
-option_to None p e = let z : ⊥ = grind arith in absurd z
-option_to (Some q) p e = inl (let d : q ≡ p = cc in sym d)
+option_to o p e = grind arith
 
 option_of : (o : Option ℕ) (p : ℕ) → Among p (option_to_list o) → o ≡ Some p
-option_of None p x = absurd x
-option_of (Some q) p (inl e) = ap Some (sym e)
-option_of (Some q) p (inr x) = absurd x
+option_of o p x = grind arith
 
 pub locals_right : (x : Text) (m : Module) → Verdict (Clean (locals_wrongs x m)) (locals_wrongs x m) (judge_locals x m)
 locals_right x m =
@@ -164,12 +142,7 @@ static_right_lem x m lo hi i =
     stage (twice_wrongs x m) (module_wrongs x m ∷ space_wrongs x m ∷ locals_wrongs x m ∷ []) (judge_twice x m) (then (judge_module x m) (λ b. then (judge_space x m) (λ c. judge_locals x m))) (twice_right x m) second
 
 earliest_one : (W : Wrongs) (f g : Refusal) → Earliest W f → Earliest W g → f ≡ g
-earliest_one W f g a b = go (a.1 g b.0) (b.1 f a.0)
-  where
-    go : (place_of f < place_of g) ⊎ At f g → (place_of g < place_of f) ⊎ At g f → f ≡ g
-    go (inr e) y = sym e
-    go (inl h) (inr e) = e
-    go (inl h) (inl k) = let z : ⊥ = omega arith in absurd z
+earliest_one W f g a b = let x = a.1 g b.0 in let y = b.1 f a.0 in grind arith
 
 pub staged_one : (ws : List Wrongs) (r s : Result (Unit {0}) Refusal) → Staged ws r → Staged ws s → s ≡ r
 staged_one [] r s a b = b ∙ sym a

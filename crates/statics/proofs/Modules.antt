@@ -15,9 +15,9 @@ use Rattle.statics.specs.Modes.{Word, int, byte, Mode, plain, ref_array, Element
 use Rattle.statics.specs.Laws.{Wrongs}
 use Rattle.statics.specs.Scopes.{Text, Env, Keeps, Signature, record_modes}
 use Rattle.statics.specs.Expressions.{each}
-use Rattle.statics.specs.Written.{mode_of, element_of}
+use Rattle.statics.specs.Written.{mode_of, element_of, written}
 use Rattle.statics.specs.Values.{Want, free, simply, several, recorded, inner, TakesInteger, address_mode, TakesName, TakesString, TakesList, Repeats, total, how_many, front_value, ThenAsk, initial, listed, an_entry, AllStart, ElementStarts, Valueless}
-use Rattle.statics.specs.Modules.{maybe_mode, modes, maybe_written, modes_written, fields_written, parameters_written, Admitted, data_item, data_dec, in_record, in_procedure, outermost, a_brick, moditem, module_env, module_wrongs}
+use Rattle.statics.specs.Modules.{maybe_mode, modes, optional, fields_written, Admitted, data_item, data_dec, in_record, in_procedure, outermost, a_brick, moditem, module_env, module_wrongs}
 use Rattle.statics.specs.Order.{Span, InMany, InMode, InName, InInit, InValue, InValues, InEntry, InDec, InOpt, InFields, InBrick, InModitem, InModule}
 use Rattle.statics.specs.JudgeExpressions.{then, check, keeps, same_mode, judge_each}
 use Rattle.statics.specs.JudgeStatements.{judge_written, is_plain}
@@ -181,17 +181,15 @@ opt_le : {A : Type 0} (I : ℕ → A → ℕ → Type 0) → ((a : A) (lo hi : �
 opt_le I le tree.none lo hi i = i
 opt_le I le (tree.some a) lo hi i = le a lo hi i
 
-maybe_right : (Γ : Env) (o : Opt tree.Mode) (lo hi : ℕ) → InOpt InMode lo o hi → Checks lo hi (maybe_written Γ o) (judge_opt (judge_written Γ) o)
-maybe_right Γ tree.none lo hi i = nothing lo hi
-maybe_right Γ (tree.some m) lo hi i = written_right Γ m lo hi i
+opt_right :
+    {A : Type 0} (W : A → Wrongs) (f : A → Result (Unit {0}) Refusal) (I : ℕ → A → ℕ → Type 0)
+    → ((a : A) (lo hi : ℕ) → I lo a hi → Checks lo hi (W a) (f a))
+    → (o : Opt A) (lo hi : ℕ) → InOpt I lo o hi → Checks lo hi (optional W o) (judge_opt f o)
+opt_right W f I right tree.none lo hi i = nothing lo hi
+opt_right W f I right (tree.some a) lo hi i = right a lo hi i
 
-modes_right : (Γ : Env) (o : Opt (Many tree.Mode)) (lo hi : ℕ) → InOpt (InMany InMode) lo o hi → Checks lo hi (modes_written Γ o) (judge_opt (judge_each (judge_written Γ)) o)
-modes_right Γ tree.none lo hi i = nothing lo hi
-modes_right Γ (tree.some ms) lo hi i = each_right _ _ _ mode_le (written_right Γ) ms lo hi i
-
-parameters_right : (Γ : Env) (o : Opt Fields) (lo hi : ℕ) → InOpt InFields lo o hi → Checks lo hi (parameters_written Γ o) (judge_opt (judge_fields Γ) o)
-parameters_right Γ tree.none lo hi i = nothing lo hi
-parameters_right Γ (tree.some fs) lo hi i = fields_right Γ fs lo hi i
+maybe_right : (Γ : Env) (o : Opt tree.Mode) (lo hi : ℕ) → InOpt InMode lo o hi → Checks lo hi (optional (written Γ) o) (judge_opt (judge_written Γ) o)
+maybe_right Γ o lo hi i = opt_right _ _ InMode (written_right Γ) o lo hi i
 
 -- EXT.
 modes_decides : (ms ks : List Mode) → Decides (pointwise same_mode ms ks) (ms ≡ ks)
@@ -222,7 +220,7 @@ brick_right Γ (procedure n k ps m b e) lo hi i =
     let g = opt_le InMode mode_le m j.0 j.2.0 j.2.1 in
     let h = body_le b j.2.0 hi j.2.2 in
     wider lo hi (omega (arith, i.0)) (omega arith)
-    (next f (omega arith) (parameters_right (outermost (in_procedure Γ ps m) b) ps (n + 1) j.0 j.1)
+    (next f (omega arith) (opt_right _ _ InFields (fields_right (outermost (in_procedure Γ ps m) b)) ps (n + 1) j.0 j.1)
     (next g h (maybe_right Γ m j.0 j.2.0 j.2.1) (body_right (in_procedure Γ ps m) b j.2.0 hi j.2.2)))
 
 moditem_le : (x : Moditem) (lo hi : ℕ) → InModitem lo x hi → lo ≤ hi
@@ -244,7 +242,7 @@ moditem_right Γ (external_procs k ms m ns) lo hi i =
     let j = i.2 in
     let g = opt_le InMode mode_le m i.0 j.0 j.1 in
     let h = many_le InName name_le ns j.0 hi j.2 in
-    next (opt_le (InMany InMode) (many_le InMode mode_le) ms lo i.0 i.1) (omega arith) (modes_right Γ ms lo i.0 i.1)
+    next (opt_le (InMany InMode) (many_le InMode mode_le) ms lo i.0 i.1) (omega arith) (opt_right _ _ (InMany InMode) (each_right _ _ _ mode_le (written_right Γ)) ms lo i.0 i.1)
     (next g h (maybe_right Γ m i.0 j.0 j.1)
     (each_right _ _ InName name_le (λ n lo hi q. tested lo hi (WrongName n) q (admitted_decides (Γ.text.word n) (record { takes = modes Γ.text ms; gives = maybe_mode Γ.text m }))) ns j.0 hi j.2))
 moditem_right Γ (external_store n ds) lo hi i = cleaned (refusing lo hi (WrongName n) i)

@@ -1,7 +1,6 @@
 -- Blocks and statements are judged right. Assumes nothing.
-use Rattle.std.proofs.Common.{◌≡◌, ℕ, ◌+◌, ◌≤◌, Bool, true, false, ◌⊎◌, length, Some, None, Err, Option, Result, sym, refl, subst, inl, inr, arith}
-use Rattle.std.specs.Bool.{Decides, then_some}
-use Rattle.std.proofs.lemmas.Bool.Decides.{not_from_Decides}
+use Rattle.std.proofs.Common.{◌≡◌, ℕ, ◌+◌, ◌≤◌, Bool, length, Some, None, Err, Option, Result, refl, inl, arith}
+use Rattle.std.specs.Bool.{Decides}
 use Rattle.statics.specs.declared.Refusal.{Refusal}
 use Rattle.statics.specs.Refusals.{place_of}
 use Rattle.statics.specs.declared.Refusal.TheVariants.{Misfit, NoValue}
@@ -15,7 +14,7 @@ use Rattle.statics.specs.Expressions.{Form, Gives, Off, expr, a_variable, count,
 use Rattle.statics.specs.Written.{mode_of, record_name, written, written_element, list_names}
 use Rattle.statics.specs.Statements.{into, Starts, local_item, local_items, local_dec, local_decs, entries, inside, ready_inside, aim, aimed, Joined, targets, Silent, a_body, sequence, statement, arms}
 use Rattle.statics.specs.Order.{Span, In, InVariable, InMany, InCondition, InMode, InElement, InName, InInit, InLocal, InLocals, InDestination, InBody, InSequence, InStatement, InArms}
-use Rattle.statics.specs.JudgeExpressions.{then, check, same_mode, bring, done, shapes, judge, judge_variable, judge_condition}
+use Rattle.statics.specs.JudgeExpressions.{then, check, bring, done, shapes, judge, judge_variable, judge_condition}
 use Rattle.statics.specs.JudgeStatements.{judge_record_name, judge_written, judge_element, judge_into, is_plain, judge_local_item, judge_local_items, judge_local_dec, judge_local_decs, join, judge_target, judge_targets, silent, judge_body, judge_sequence, judge_statement, judge_arms}
 use Rattle.statics.proofs.Decide.{Tells, found, none, Also, Judged, lacking, like, cleaned, wider, chain, alone, two, turn, plainly, next, nothing}
 use Rattle.statics.proofs.Fit.{yes, no, tells_unit, same_mode_decides}
@@ -113,23 +112,13 @@ local_decs_right Γ (locals ls l) lo hi i =
     next (locals_le ls lo i.0 i.1) (local_le l i.0 hi i.2) (local_decs_right Γ ls lo i.0 i.1) (local_dec_right (after Γ (length (entries Γ.text ls))) l i.0 hi i.2)
 
 -- Destinations.
-joined_to : (a : Option Mode) (m : Mode) → Joined a m (join a m)
-joined_to None m = refl
-joined_to (Some k) m = go (same_mode k m) (same_mode_decides k m)
-  where
-    go : (b : Bool) → Decides b (k ≡ m) → ((k ≡ m) × (then_some b k ≡ Some k)) ⊎ ((k ≡ m → ⊥) × (then_some b k ≡ None))
-    go true d = inl (d.0 refl, refl)
-    go false d = inr (not_from_Decides false d refl, refl)
+joined_to : (a : Option Mode) (m : Mode) (c : Option Mode) → c ≡ join a m → Joined a m c
+joined_to None m c e = e
+joined_to (Some k) m c e = grind (arith, same_mode_decides k m)
 
 joined_back : (a : Option Mode) (m : Mode) (c : Option Mode) → Joined a m c → c ≡ join a m
 joined_back None m c x = x
-joined_back (Some k) m c x = go (same_mode k m) (same_mode_decides k m) x
-  where
-    go : (b : Bool) → Decides b (k ≡ m) → Joined (Some k) m c → c ≡ then_some b k
-    go true d (inl y) = y.1
-    go true d (inr y) = absurd (y.0 (d.0 refl))
-    go false d (inl y) = absurd (not_from_Decides false d refl y.0)
-    go false d (inr y) = y.1
+joined_back (Some k) m c x = grind (arith, same_mode_decides k m)
 
 aimed_in : (d : Destination) (lo hi : ℕ) → InDestination lo d hi → InVariable lo (aimed d) hi
 aimed_in (tree.place v) lo hi i = i
@@ -155,7 +144,7 @@ targets_right : (Γ : Env) (ds : Many Destination) (lo hi : ℕ) → InMany InDe
 targets_right Γ (one d) lo hi i = turn Some (target_right Γ d lo hi i)
 targets_right Γ (more ds d) lo hi i =
     like _ _
-    (λ c h. (h.0, h.1, h.2, h.3, subst (Joined h.0 h.2) (sym h.4) (joined_to h.0 h.2)))
+    (λ c h. (h.0, h.1, h.2, h.3, joined_to h.0 h.2 c h.4))
     (λ c h. (h.0, h.1, h.2, h.3, joined_back h.0 h.2 c h.4))
     (λ f w. w) (λ f w. w)
     (two join (destinations_le ds lo i.0 i.1) (destination_le d i.0 hi i.2) (targets_right Γ ds lo i.0 i.1) (target_right Γ d i.0 hi i.2))

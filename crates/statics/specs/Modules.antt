@@ -75,22 +75,15 @@ module_env x m = record {
 }
 
 -- Module items.
-abbrev pub maybe_written : Env → Opt tree.Mode → Wrongs
-maybe_written Γ tree.none = Never
-maybe_written Γ (tree.some m) = written Γ m
-
-abbrev pub modes_written : Env → Opt (Many tree.Mode) → Wrongs
-modes_written Γ tree.none = Never
-modes_written Γ (tree.some ms) = each (written Γ) ms
+-- the wrongs of what may be missing
+abbrev pub optional : {A : Type 0} → (A → Wrongs) → Opt A → Wrongs
+optional W tree.none = Never
+optional W (tree.some a) = W a
 
 abbrev pub fields_written : Env → Fields → Wrongs
 fields_written Γ (tree.field m n) = written Γ m
 fields_written Γ (also fs n) = fields_written Γ fs
 fields_written Γ (tree.next fs m n) = Both (fields_written Γ fs) (written Γ m)
-
-abbrev pub parameters_written : Env → Opt Fields → Wrongs
-parameters_written Γ tree.none = Never
-parameters_written Γ (tree.some fs) = fields_written Γ fs
 
 -- the only EXT descriptions
 abbrev pub Admitted : Word → Signature → Unit {0} → Type 0
@@ -127,12 +120,12 @@ outermost Γ (body ls s) = inside Γ ls
 abbrev pub a_brick : Env → Brick → Wrongs
 a_brick Γ (store n ds) = each (data_dec Γ) ds
 a_brick Γ (procedure n i ps m b e) =
-    Both (parameters_written (outermost (in_procedure Γ ps m) b) ps) (Both (maybe_written Γ m) (a_body (in_procedure Γ ps m) b))
+    Both (optional (fields_written (outermost (in_procedure Γ ps m) b)) ps) (Both (optional (written Γ) m) (a_body (in_procedure Γ ps m) b))
 
 abbrev pub moditem : Env → Moditem → Wrongs
 moditem Γ blank = Never
 moditem Γ (external_procs i ms m ns) =
-    Both (modes_written Γ ms) (Both (maybe_written Γ m) (each (λ n. Lacks (Admitted (Γ.text.word n) (record { takes = modes Γ.text ms; gives = maybe_mode Γ.text m })) (WrongName n)) ns))
+    Both (optional (each (written Γ)) ms) (Both (optional (written Γ) m) (each (λ n. Lacks (Admitted (Γ.text.word n) (record { takes = modes Γ.text ms; gives = maybe_mode Γ.text m })) (WrongName n)) ns))
 moditem Γ (external_store n ds) = At (WrongName n)
 moditem Γ (tree.record_mode n i fs) = fields_written (in_record Γ fs) fs
 moditem Γ (own b) = a_brick Γ b
