@@ -89,7 +89,7 @@ named_right :
     → ((a : A) → Also E (x a).wrong)
     → ((a : A) → Right lo hi (x a) (f a))
     → Right lo hi (named Γ n P E x) (then (look Γ n pick) f)
-named_right Γ n lo hi P E pick x f t s far inc g = alone _ _ E f (omega (arith, s.0)) (omega (arith, s.1)) (look_judged Γ n P pick lo (n + 1) t (s.0, omega arith)) far inc (λ a h. g a)
+named_right Γ n lo hi P E pick x f t s far inc g = alone _ _ E f (look_judged Γ n P pick lo (n + 1) t (s.0, omega arith)) (omega (arith, s.1)) far inc (λ a h. g a)
 
 name_right : (Γ : Env) (n lo hi : ℕ) → Span lo hi n → Right lo hi (named Γ n Stands Never fixed) (look Γ n stands)
 name_right Γ n lo hi s =
@@ -101,7 +101,7 @@ name_right Γ n lo hi s =
     back f (inr (inr x)) = absurd x.2
 
 subscripted_right : (lo mid hi s z : ℕ) (b e : Form) (r q : Result Thing Refusal) → Span lo mid s → Span mid hi z → Right lo mid b r → Right mid hi e q → Right lo hi (subscripted b s e z) (judge_subscript r s q z)
-subscripted_right lo mid hi s z b e r q i k x y = two (λ m k. subscript m) (omega arith) (omega arith) (brought lo mid s b elements r i x) (brought mid hi z e (mode INT) q k y)
+subscripted_right lo mid hi s z b e r q i k x y = two (λ m k. subscript m) (brought lo mid s b elements r i x) (brought mid hi z e (mode INT) q k y)
 
 selected_right : (Γ : Env) (lo mid hi s c : ℕ) (b : Form) (r : Result Thing Refusal) → Span lo mid s → Span mid hi c → Right lo mid b r → Right lo hi (selected Γ b s c) (judge_select Γ r s c)
 selected_right Γ lo mid hi s c b r i k x =
@@ -109,7 +109,7 @@ selected_right Γ lo mid hi s c b r i k x =
     (λ m h. lacking lo hi (WrongName c) (omega arith, omega arith) (selects_tells Γ (referred_record m) c))
 
 operated_right : {n : ℕ} (o : Dyadic n) (lo mid hi s z : ℕ) (a b : Form) (r q : Result Thing Refusal) → Span lo mid s → Span mid hi z → Right lo mid a r → Right mid hi b q → Right lo hi (operated o a s b z) (then (bring (operand o) s r) (λ m. then (bring (operand o) z q) (λ k. Ok (value (result o m k)))))
-operated_right o lo mid hi s z a b r q i k x y = two (λ m k. value (result o m k)) (omega arith) (omega arith) (brought lo mid s a (operand o) r i x) (brought mid hi z b (operand o) q k y)
+operated_right o lo mid hi s z a b r q i k x y = two (λ m k. value (result o m k)) (brought lo mid s a (operand o) r i x) (brought mid hi z b (operand o) q k y)
 
 -- Calls.
 abbrev pub Checks : ℕ → ℕ → Wrongs → Result (Unit {0}) Refusal → Type 0
@@ -159,7 +159,7 @@ headed_inner n z e (thing t) f w = inr (inl w)
 headed_inner n z e (signature s) f w = inl (passed_inner e z (slice_get s.takes 0) f w)
 
 headed_right : (lo hi n z : ℕ) (e : Form) (r : Result Thing Refusal) (h : Head) → lo ≤ n → Span (n + 1) hi z → Right (n + 1) hi e r → Right lo hi (headed n e z h) (judge_head n r z h)
-headed_right lo hi n z e r (thing t) i k x = subscripted_right lo (n + 1) hi n z (fixed t) e (Ok t) r (i, omega arith) k (sure lo (n + 1) t) x
+headed_right lo hi n z e r (thing t) i k x = subscripted_right lo (n + 1) hi n z (fixed t) e (Ok t) r (i, omega arith) k (sure t (omega (arith, i))) x
 headed_right lo hi n z e r (signature s) i k x =
     applied_right lo hi n 1 _ _ Yields yields s (i, omega arith) yields_tells (λ ms. wider lo hi (omega arith) (omega arith) (passed_right (n + 1) hi z e r (slice_get ms 0) k x))
 
@@ -186,16 +186,15 @@ mutual
   term_right Γ (primary p) lo hi i = primary_right Γ p lo hi i
 
   pub primary_right : (Γ : Env) (p : Primary) (lo hi : ℕ) → InPrimary lo p hi → Right lo hi (a_primary Γ p) (judge_primary Γ p)
-  primary_right Γ (integer k) lo hi i = sure lo hi (figure (Γ.text.value k))
-  primary_right Γ (text k) lo hi i = sure lo hi string_thing
+  primary_right Γ (integer k) lo hi i = sure (figure (Γ.text.value k)) (omega (arith, i.0, i.1))
+  primary_right Γ (text k) lo hi i = sure string_thing (omega (arith, i.0, i.1))
   primary_right Γ (variable v) lo hi i = use_right Γ v lo hi i
-  primary_right Γ (call n k) lo hi i = called_right Γ lo hi n 0 _ _ Yields yields i yields_tells (λ ms f v. v) (λ ms. nothing (n + 1) hi)
+  primary_right Γ (call n k) lo hi i = called_right Γ lo hi n 0 _ _ Yields yields i yields_tells (λ ms f v. v) (λ ms. nothing (omega (arith, i.1)))
   primary_right Γ (call_on n k es e) lo hi i =
       let m = i.1.0 in
-      let f = exprs_le es (n + 1) m i.1.1 in
       let g = spot_in e m hi i.1.2 in
       called_right Γ lo hi n (suc (count es)) _ _ Yields yields (front_primary_in (call_on n k es e) lo hi i) yields_tells (calls_inner Γ es e)
-      (λ ms. next (omega arith) (omega arith) (args_right Γ ms es (n + 1) m i.1.1) (passed_right m hi (spot e) (expr Γ e) (judge Γ e) (slice_get ms (count es)) g (expr_right Γ e m hi i.1.2)))
+      (λ ms. next (args_right Γ ms es (n + 1) m i.1.1) (passed_right m hi (spot e) (expr Γ e) (judge Γ e) (slice_get ms (count es)) g (expr_right Γ e m hi i.1.2)))
   primary_right Γ (paren k e) lo hi i = wider lo hi (omega (arith, i.0)) (omega arith) (expr_right Γ e (k + 1) hi i.1)
 
   pub use_right : (Γ : Env) (v : Variable) (lo hi : ℕ) → InVariable lo v hi → Right lo hi (a_use Γ v) (judge_use Γ v)
@@ -214,9 +213,8 @@ mutual
   args_right Γ ms (first e) lo hi i = passed_right lo hi (spot e) (expr Γ e) (judge Γ e) (slice_get ms 0) (spot_in e lo hi i) (expr_right Γ e lo hi i)
   args_right Γ ms (comma es e) lo hi i =
       let m = i.0 in
-      let f = exprs_le es lo m i.1 in
       let g = spot_in e m hi i.2 in
-      next (omega arith) (omega arith) (args_right Γ ms es lo m i.1) (passed_right m hi (spot e) (expr Γ e) (judge Γ e) (slice_get ms (count es)) g (expr_right Γ e m hi i.2))
+      next (args_right Γ ms es lo m i.1) (passed_right m hi (spot e) (expr Γ e) (judge Γ e) (slice_get ms (count es)) g (expr_right Γ e m hi i.2))
 
 -- Comparisons and conditions.
 agree_decides : (o : Comparator) (m k : Mode) → Decides (agree o m k) (Agree o m k)
@@ -235,7 +233,7 @@ comparison_right Γ (compare a o b) lo hi i =
     let z = spot_in b i.0 hi i.2 in
     let f = front_in a lo i.0 i.1 in
     let n = compared o in
-    let both = two {C = Mode × Mode} (λ m k. (m, k)) (omega arith) (omega arith) (brought lo i.0 (spot a) (expr Γ a) n (judge Γ a) s (expr_right Γ a lo i.0 i.1)) (brought i.0 hi (spot b) (expr Γ b) n (judge Γ b) z (expr_right Γ b i.0 hi i.2)) in
+    let both = two {C = Mode × Mode} (λ m k. (m, k)) (brought lo i.0 (spot a) (expr Γ a) n (judge Γ a) s (expr_right Γ a lo i.0 i.1)) (brought i.0 hi (spot b) (expr Γ b) n (judge Γ b) z (expr_right Γ b i.0 hi i.2)) in
     subst (Checks lo hi (comparison Γ (compare a o b))) (then_pair (bring n (spot a) (judge Γ a)) (bring n (spot b) (judge Γ b)) (λ m k. check (agree o m k) (Misfit (front a))))
     (cleaned
     (chain (λ mk u. Agree o mk.0 mk.1) _ (λ mk. check (agree o mk.0 mk.1) (Misfit (front a)))
@@ -251,20 +249,10 @@ many_le I le (more m a) lo hi i =
 
 pub each_right :
     {A : Type 0} (W : A → Wrongs) (f : A → Result (Unit {0}) Refusal) (I : ℕ → A → ℕ → Type 0)
-    → ((a : A) (lo hi : ℕ) → I lo a hi → lo ≤ hi)
     → ((a : A) (lo hi : ℕ) → I lo a hi → Checks lo hi (W a) (f a))
     → (m : Many A) (lo hi : ℕ) → InMany I lo m hi → Checks lo hi (each W m) (judge_each f m)
-each_right W f I le g (one a) lo hi i = g a lo hi i
-each_right W f I le g (more m a) lo hi i = next (many_le I le m lo i.0 i.1) (le a i.0 hi i.2) (each_right W f I le g m lo i.0 i.1) (g a i.0 hi i.2)
-
-comparison_le : (c : Comparison) (lo hi : ℕ) → InComparison lo c hi → lo ≤ hi
-comparison_le (compare a o b) lo hi i =
-    let f = front_in a lo i.0 i.1 in
-    let g = front_in b i.0 hi i.2 in
-    omega arith
-
-pub condition_le : (c : Condition) (lo hi : ℕ) → InCondition lo c hi → lo ≤ hi
-condition_le c lo hi i = many_le _ (many_le _ comparison_le) c lo hi i
+each_right W f I g (one a) lo hi i = g a lo hi i
+each_right W f I g (more m a) lo hi i = next (each_right W f I g m lo i.0 i.1) (g a i.0 hi i.2)
 
 pub condition_right : (Γ : Env) (c : Condition) (lo hi : ℕ) → InCondition lo c hi → Checks lo hi (condition Γ c) (judge_condition Γ c)
-condition_right Γ c lo hi i = each_right _ _ _ (many_le _ comparison_le) (each_right _ _ _ comparison_le (comparison_right Γ)) c lo hi i
+condition_right Γ c lo hi i = each_right _ _ _ (each_right _ _ _ (comparison_right Γ)) c lo hi i

@@ -1,5 +1,5 @@
 -- Initial values and module items are judged right. Assumes nothing.
-use Rattle.std.proofs.Common.{◌≡◌, ℕ, ◌+◌, ◌<◌, ◌≤◌, Bool, true, false, ◌&&◌, List, [], ◌∷◌, length, Some, None, codes, Option, Result, refl, ap, arith}
+use Rattle.std.proofs.Common.{◌≡◌, ℕ, ◌+◌, ◌<◌, Bool, true, false, ◌&&◌, List, [], ◌∷◌, length, Some, None, codes, Option, Result, refl, ap, arith}
 use Rattle.std.specs.Option.{option_eq}
 use Rattle.std.specs.Cmp.Lexicographic.{pointwise}
 use Rattle.std.specs.List.{list_all}
@@ -26,7 +26,7 @@ use Rattle.statics.proofs.Decide.{lacking, cleaned, wider, chain, next, nothing}
 use Rattle.statics.proofs.Fit.{yes, no, tells_unit, same_mode_decides, same_element_decides}
 use Rattle.statics.proofs.Names.{look_judged, keeps_tells}
 use Rattle.statics.proofs.Expressions.{Checks, each_right, many_le}
-use Rattle.statics.proofs.Statements.{tested, starts_decides, refusing, mode_le, element_le, name_le, init_le, body_le, written_right, element_right, record_name_right, body_right}
+use Rattle.statics.proofs.Statements.{tested, starts_decides, refusing, name_le, written_right, element_right, record_name_right, body_right}
 
 -- the same, if all before it is right
 then_tested : {P : Type 0} {b : Bool} {W : Wrongs} {r : Result (Unit {0}) Refusal} (lo hi : ℕ) (f : Refusal) → Span lo hi (place_of f) → Checks lo hi W r → Decides b P → Checks lo hi (ThenAsk W (λ u. P) f) (then r (λ u. check b f))
@@ -86,9 +86,6 @@ mutual
   entry_le (once v) lo hi i = let f = value_in v lo hi i in omega arith
   entry_le (repeated v k n) lo hi i = let f = value_in v lo hi i in omega arith
 
-value_le : (v : Value) (lo hi : ℕ) → InValue lo v hi → lo ≤ hi
-value_le v lo hi i = let f = value_in v lo hi i in omega arith
-
 mutual
   pub value_right : (v : Value) (Γ : Env) (w : Want) (lo hi : ℕ) → InValue lo v hi → Checks lo hi (initial Γ w v) (judge_value Γ w v)
   value_right (constant k) Γ w lo hi i = tested lo hi (Misfit k) i (integer_decides w false (Γ.text.value k))
@@ -105,9 +102,7 @@ mutual
   pub values_right : (vs : Values) (Γ : Env) (w : Want) (lo hi : ℕ) → InValues lo vs hi → Checks lo hi (listed Γ w vs) (judge_values Γ w vs)
   values_right (only e) Γ w lo hi i = entry_right e Γ w 0 lo hi i
   values_right (and vs e) Γ w lo hi i =
-      let f = values_le vs lo i.0 i.1 in
-      let g = entry_le e i.0 hi i.2 in
-      next (omega arith) (omega arith) (values_right vs Γ w lo i.0 i.1) (entry_right e Γ w (how_many vs) i.0 hi i.2)
+      next (values_right vs Γ w lo i.0 i.1) (entry_right e Γ w (how_many vs) i.0 hi i.2)
 
   pub entry_right : (e : Entry) (Γ : Env) (w : Want) (k lo hi : ℕ) → InEntry lo e hi → Checks lo hi (an_entry Γ w k e) (judge_entry Γ w k e)
   entry_right (once v) Γ w k lo hi i = value_right v Γ (inner Γ w k) lo hi i
@@ -134,58 +129,29 @@ data_item_right Γ w (given ns v) lo hi i =
     let f = many_le InName name_le ns lo i.0 i.1 in
     wider lo hi (omega arith) (omega arith) (value_right v Γ w i.0 hi i.2)
 
-items_le : (is : Many (Init Value)) (lo hi : ℕ) → InMany (InInit InValue) lo is hi → lo ≤ hi
-items_le is lo hi i = many_le _ (init_le InValue value_le) is lo hi i
-
 items_right : (Γ : Env) (w : Want) (is : Many (Init Value)) (lo hi : ℕ) → InMany (InInit InValue) lo is hi → Checks lo hi (each (data_item Γ w) is) (judge_each (judge_data_item Γ w) is)
-items_right Γ w is lo hi i = each_right _ _ _ (init_le InValue value_le) (data_item_right Γ w) is lo hi i
+items_right Γ w is lo hi i = each_right _ _ _ (data_item_right Γ w) is lo hi i
 
 data_dec_right : (Γ : Env) (d : Dec (Many (Init Value))) (lo hi : ℕ) → InDec lo d hi → Checks lo hi (data_dec Γ d) (judge_data_dec Γ d)
-data_dec_right Γ tree.nothing lo hi i = nothing lo hi
-data_dec_right Γ (variables m is) lo hi i = next (mode_le m lo i.0 i.1) (items_le is i.0 hi i.2) (written_right Γ m lo i.0 i.1) (items_right Γ (simply (mode_of Γ.text m)) is i.0 hi i.2)
-data_dec_right Γ (arrays b n m is) lo hi i = next (element_le m lo i.0 i.1) (items_le is i.0 hi i.2) (element_right Γ m lo i.0 i.1) (items_right Γ (several (Γ.text.value n) (element_of Γ.text m)) is i.0 hi i.2)
+data_dec_right Γ tree.nothing lo hi i = nothing i
+data_dec_right Γ (variables m is) lo hi i = next (written_right Γ m lo i.0 i.1) (items_right Γ (simply (mode_of Γ.text m)) is i.0 hi i.2)
+data_dec_right Γ (arrays b n m is) lo hi i = next (element_right Γ m lo i.0 i.1) (items_right Γ (several (Γ.text.value n) (element_of Γ.text m)) is i.0 hi i.2)
 data_dec_right Γ (structures n is) lo hi i =
-    next (omega (arith, i.0)) (items_le is (n + 1) hi i.1) (record_name_right Γ n lo (n + 1) (i.0, omega arith)) (items_right Γ (recorded (Γ.text.word n)) is (n + 1) hi i.1)
-
-dec_le : (d : Dec (Many (Init Value))) (lo hi : ℕ) → InDec lo d hi → lo ≤ hi
-dec_le tree.nothing lo hi i = i
-dec_le (variables m is) lo hi i =
-    let f = mode_le m lo i.0 i.1 in
-    let g = items_le is i.0 hi i.2 in
-    omega arith
-dec_le (arrays b n m is) lo hi i =
-    let f = element_le m lo i.0 i.1 in
-    let g = items_le is i.0 hi i.2 in
-    omega arith
-dec_le (structures n is) lo hi i = let g = items_le is (n + 1) hi i.1 in omega (arith, i.0)
+    next (record_name_right Γ n lo (n + 1) (i.0, omega arith)) (items_right Γ (recorded (Γ.text.word n)) is (n + 1) hi i.1)
 
 -- Modes, parameters and components.
-fields_le : (fs : Fields) (lo hi : ℕ) → InFields lo fs hi → lo ≤ hi
-fields_le (tree.field m n) lo hi i = let f = mode_le m lo i.0 i.1 in let g = i.2 in omega arith
-fields_le (also fs n) lo hi i = let f = fields_le fs lo i.0 i.1 in let g = i.2 in omega arith
-fields_le (tree.next fs m n) lo hi i =
-    let f = fields_le fs lo i.0 i.1 in
-    let g = mode_le m i.0 i.2.0 i.2.1 in
-    let h = i.2.2 in
-    omega arith
-
 fields_right : (Γ : Env) (fs : Fields) (lo hi : ℕ) → InFields lo fs hi → Checks lo hi (fields_written Γ fs) (judge_fields Γ fs)
 fields_right Γ (tree.field m n) lo hi i = let g = i.2 in wider lo hi (omega arith) (omega arith) (written_right Γ m lo i.0 i.1)
 fields_right Γ (also fs n) lo hi i = let g = i.2 in wider lo hi (omega arith) (omega arith) (fields_right Γ fs lo i.0 i.1)
 fields_right Γ (tree.next fs m n) lo hi i =
-    let g = mode_le m i.0 i.2.0 i.2.1 in
     let h = i.2.2 in
-    next (fields_le fs lo i.0 i.1) (omega arith) (fields_right Γ fs lo i.0 i.1) (wider i.0 hi (omega arith) (omega arith) (written_right Γ m i.0 i.2.0 i.2.1))
-
-opt_le : {A : Type 0} (I : ℕ → A → ℕ → Type 0) → ((a : A) (lo hi : ℕ) → I lo a hi → lo ≤ hi) → (o : Opt A) (lo hi : ℕ) → InOpt I lo o hi → lo ≤ hi
-opt_le I le tree.none lo hi i = i
-opt_le I le (tree.some a) lo hi i = le a lo hi i
+    next (fields_right Γ fs lo i.0 i.1) (wider i.0 hi (omega arith) (omega arith) (written_right Γ m i.0 i.2.0 i.2.1))
 
 opt_right :
     {A : Type 0} (W : A → Wrongs) (f : A → Result (Unit {0}) Refusal) (I : ℕ → A → ℕ → Type 0)
     → ((a : A) (lo hi : ℕ) → I lo a hi → Checks lo hi (W a) (f a))
     → (o : Opt A) (lo hi : ℕ) → InOpt I lo o hi → Checks lo hi (optional W o) (judge_opt f o)
-opt_right W f I right tree.none lo hi i = nothing lo hi
+opt_right W f I right tree.none lo hi i = nothing i
 opt_right W f I right (tree.some a) lo hi i = right a lo hi i
 
 maybe_right : (Γ : Env) (o : Opt tree.Mode) (lo hi : ℕ) → InOpt InMode lo o hi → Checks lo hi (optional (written Γ) o) (judge_opt (judge_written Γ) o)
@@ -203,52 +169,25 @@ admitted_decides w s =
     Decides-or _ _ (triple (bytes_eq-Decides w (codes "INBYTE")) (modes_decides s.takes []) (maybe_mode_decides s.gives (Some INT))) (triple (bytes_eq-Decides w (codes "OUTBYTE")) (modes_decides s.takes (BYTE ∷ [])) (maybe_mode_decides s.gives None))
 
 -- Module items.
-brick_le : (b : Brick) (lo hi : ℕ) → InBrick lo b hi → lo ≤ hi
-brick_le (store n ds) lo hi i = let f = many_le InDec dec_le ds (n + 1) hi i.1 in omega (arith, i.0)
-brick_le (procedure n k ps m b e) lo hi i =
-    let j = i.1 in
-    let f = opt_le InFields fields_le ps (n + 1) j.0 j.1 in
-    let g = opt_le InMode mode_le m j.0 j.2.0 j.2.1 in
-    let h = body_le b j.2.0 hi j.2.2 in
-    omega (arith, i.0)
-
 brick_right : (Γ : Env) (b : Brick) (lo hi : ℕ) → InBrick lo b hi → Checks lo hi (a_brick Γ b) (judge_brick Γ b)
-brick_right Γ (store n ds) lo hi i = wider lo hi (omega (arith, i.0)) (omega arith) (each_right (data_dec Γ) (judge_data_dec Γ) InDec dec_le (data_dec_right Γ) ds (n + 1) hi i.1)
+brick_right Γ (store n ds) lo hi i = wider lo hi (omega (arith, i.0)) (omega arith) (each_right (data_dec Γ) (judge_data_dec Γ) InDec (data_dec_right Γ) ds (n + 1) hi i.1)
 brick_right Γ (procedure n k ps m b e) lo hi i =
     let j = i.1 in
-    let f = opt_le InFields fields_le ps (n + 1) j.0 j.1 in
-    let g = opt_le InMode mode_le m j.0 j.2.0 j.2.1 in
-    let h = body_le b j.2.0 hi j.2.2 in
     wider lo hi (omega (arith, i.0)) (omega arith)
-    (next f (omega arith) (opt_right _ _ InFields (fields_right (outermost (in_procedure Γ ps m) b)) ps (n + 1) j.0 j.1)
-    (next g h (maybe_right Γ m j.0 j.2.0 j.2.1) (body_right (in_procedure Γ ps m) b j.2.0 hi j.2.2)))
-
-moditem_le : (x : Moditem) (lo hi : ℕ) → InModitem lo x hi → lo ≤ hi
-moditem_le blank lo hi i = i
-moditem_le (external_procs k ms m ns) lo hi i =
-    let j = i.2 in
-    let f = opt_le (InMany InMode) (many_le InMode mode_le) ms lo i.0 i.1 in
-    let g = opt_le InMode mode_le m i.0 j.0 j.1 in
-    let h = many_le InName name_le ns j.0 hi j.2 in
-    omega arith
-moditem_le (external_store n ds) lo hi i = omega arith
-moditem_le (tree.record_mode n k fs) lo hi i = let f = fields_le fs (n + 1) hi i.1 in omega (arith, i.0)
-moditem_le (own b) lo hi i = brick_le b lo hi i
-moditem_le (entry b) lo hi i = brick_le b lo hi i
+    (next (opt_right _ _ InFields (fields_right (outermost (in_procedure Γ ps m) b)) ps (n + 1) j.0 j.1)
+    (next (maybe_right Γ m j.0 j.2.0 j.2.1) (body_right (in_procedure Γ ps m) b j.2.0 hi j.2.2)))
 
 moditem_right : (Γ : Env) (x : Moditem) (lo hi : ℕ) → InModitem lo x hi → Checks lo hi (moditem Γ x) (judge_moditem Γ x)
-moditem_right Γ blank lo hi i = nothing lo hi
+moditem_right Γ blank lo hi i = nothing i
 moditem_right Γ (external_procs k ms m ns) lo hi i =
     let j = i.2 in
-    let g = opt_le InMode mode_le m i.0 j.0 j.1 in
-    let h = many_le InName name_le ns j.0 hi j.2 in
-    next (opt_le (InMany InMode) (many_le InMode mode_le) ms lo i.0 i.1) (omega arith) (opt_right _ _ (InMany InMode) (each_right _ _ _ mode_le (written_right Γ)) ms lo i.0 i.1)
-    (next g h (maybe_right Γ m i.0 j.0 j.1)
-    (each_right _ _ InName name_le (λ n lo hi q. tested lo hi (WrongName n) q (admitted_decides (Γ.text.word n) (record { takes = modes Γ.text ms; gives = maybe_mode Γ.text m }))) ns j.0 hi j.2))
+    next (opt_right _ _ (InMany InMode) (each_right _ _ _ (written_right Γ)) ms lo i.0 i.1)
+    (next (maybe_right Γ m i.0 j.0 j.1)
+    (each_right _ _ InName (λ n lo hi q. tested lo hi (WrongName n) q (admitted_decides (Γ.text.word n) (record { takes = modes Γ.text ms; gives = maybe_mode Γ.text m }))) ns j.0 hi j.2))
 moditem_right Γ (external_store n ds) lo hi i = cleaned (refusing lo hi (WrongName n) i)
 moditem_right Γ (tree.record_mode n k fs) lo hi i = wider lo hi (omega (arith, i.0)) (omega arith) (fields_right (in_record Γ fs) fs (n + 1) hi i.1)
 moditem_right Γ (own b) lo hi i = brick_right Γ b lo hi i
 moditem_right Γ (entry b) lo hi i = brick_right Γ b lo hi i
 
 pub module_right : (x : Text) (m : Module) (lo hi : ℕ) → InModule lo m hi → Checks lo hi (module_wrongs x m) (judge_module x m)
-module_right x m lo hi i = each_right _ _ InModitem moditem_le (moditem_right (module_env x m)) m lo hi i
+module_right x m lo hi i = each_right _ _ InModitem (moditem_right (module_env x m)) m lo hi i

@@ -65,15 +65,15 @@ lead {P} {c} {n} {k} {s} {r} f e g =
     let o = x.onward in
     record { end = x.end; rest = x.rest; onward = omega arith; within = λ lo hi l h. (omega arith, x.within (n + 1) hi (omega arith) h) }
 
-alone : {P : ℕ → ℕ → Type 0} {c : Symbol} {n k : ℕ} {s r : List Token} → From (token c n ∷ s) k → kept c ≡ true → (From s (suc k) → Placed P r (suc k)) → Placed (λ lo hi. Span lo hi n) r k
-alone {P} {c} {n} {k} {s} {r} f e g =
+sole : {P : ℕ → ℕ → Type 0} {c : Symbol} {n k : ℕ} {s r : List Token} → From (token c n ∷ s) k → kept c ≡ true → (From s (suc k) → Placed P r (suc k)) → Placed (λ lo hi. Span lo hi n) r k
+sole {P} {c} {n} {k} {s} {r} f e g =
     let m = number_first c n s k f.0 e f.1 in
     let x = g (drop_first c n s k f.0 f.1) in
     let o = x.onward in
     record { end = x.end; rest = x.rest; onward = omega arith; within = λ lo hi l h. (omega arith, omega arith) }
 
 leaf : {c : Symbol} {n k : ℕ} {r : List Token} → From (token c n ∷ r) k → kept c ≡ true → Placed (λ lo hi. Span lo hi n) r k
-leaf f e = alone f e stay
+leaf f e = sole f e stay
 
 read_name : Reads of_name InName
 read_name n r k f = leaf f refl
@@ -248,7 +248,7 @@ read_moditem (external_procs i ms m ns) r k f =
     (λ j. pair (read_opt (of_many of_mode COMMA) (InMany InMode) (read_many of_mode COMMA InMode read_mode) ms _ _ j)
     (λ _ l. skip l (λ p. pair (read_opt of_mode InMode read_mode m _ _ p) (λ _ q. read_names ns r _ q))))))
 read_moditem (external_store n ds) r k f =
-    skip f (λ g. skip g (λ h. alone h refl (λ j. skip j (λ l. past (read_many (of_dec of_names) SEMI Anywhere read_spec ds _ _ l)))))
+    skip f (λ g. skip g (λ h. sole h refl (λ j. skip j (λ l. past (read_many (of_dec of_names) SEMI Anywhere read_spec ds _ _ l)))))
 read_moditem (tree.record_mode n i fs) r k f = skip f (λ g. lead g refl (λ h. skip h (λ j. past (read_fields fs _ _ j))))
 read_moditem (own b) r k f = read_brick b r k f
 read_moditem (entry b) r k f = skip f (read_brick b r _)
