@@ -27,7 +27,7 @@ cut (a ∷ u) v (b ∷ p) q e =
 
 -- a word that goes on where it stops
 stopped : (u v x : List Symbol) (c : Symbol) (z : List Symbol) → v ≡ c ∷ x → Stops u v → Viable (u ++ (c ∷ z)) → ⊥
-stopped u [] x c z e s h = let y : ◌≡◌ {A = ℕ} 0 1 = cc in omega arith
+stopped u [] x c z e s h = grind arith
 stopped u (a ∷ v) x c z e s h =
     let y : a ≡ c = cc in
     s (subst (λ (k : Symbol). Viable (u ++ (k ∷ []))) (sym y) (viable_less (u ++ (c ∷ [])) z (subst Viable (sym (append_assoc u (c ∷ []) z)) h)))
@@ -41,9 +41,6 @@ sunk_at n u [] p x c z e f h s = h
 sunk_at n u (a ∷ v) p x c z e f h s =
     let y : a ≡ c = cc in
     s u a z (f ∙ ap (λ (k : Symbol). u ++ (k ∷ z)) (sym y)) h.1 h.2
-
-sentence_viable : (w u v : List Symbol) → w ≡ u ++ v → Sentence w → Viable u
-sentence_viable w u v e s = (v, subst Sentence e s)
 
 sinks_viable : (n : ℕ) (u v : List Symbol) → Sinks n u v → Viable u
 sinks_viable n u [] h = absurd h

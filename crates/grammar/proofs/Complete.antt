@@ -1,22 +1,15 @@
 -- Every module is read back from its items. Assumes nothing.
 use Rattle.std.proofs.Common.{◌≡◌, ℕ, List, [], ◌∷◌, refl, ap, ◌∙◌}
 use Rattle.grammar.specs.Symbols.{NAME, INTEGER, TEXT, AND, ARRAY, BYTE, DO, ELSE, ELSEIF, END, ENDBLOCK, ENDDATA, ENDPROC, INT, OR, REF, REP, THEN, LEFT, RIGHT, PLUS, MINUS, COMMA, SEMI, BECOMES}
-use Rattle.grammar.specs.Trees.{Token, token, symbol, key, Many, one, more, of_many, Opt, none, some, of_opt, of_name, of_names, Variable, name, element, component, Exprs, first, comma, of_expr, of_variable, Comparator, equal, unequal, less, at_most, greater, at_least, same_place, other_place, spell_comparator, Comparison, compare, Subcondition, Condition, of_comparison, of_subcondition, of_condition, Mode, int, byte, ref_int, ref_byte, ref_record, ref_array, ref_array_brackets, Amode, simple, records, of_mode, of_amode, Fields, field, also, next, of_fields, plain, given, of_inits, Value, constant, signed, minus_signed, identifier, string, empty_list, list, Values, only, and, Entry, once, repeated, of_value, of_values, of_entry, Dec, nothing, variables, arrays, structures, of_dec, Local, local, of_local, Locals, no_locals, locals, of_locals, Destination, place, val, of_destination, Body, body, Sequence, single, sequel, Statement, dummy, block, assign, invoke, invoke_on, branch, branch_else, repeat, loop, return, return_with, Arms, when, elsewhen, of_body, of_sequence, of_statement, of_arms, Brick, store, procedure, of_brick, Moditem, blank, external_procs, external_store, record_mode, own, entry, of_moditem, Module, of_module}
+use Rattle.grammar.specs.Trees.{Token, token, symbol, key, Many, one, more, of_many, Opt, none, some, of_opt, of_name, of_names, Variable, name, element, component, Exprs, first, comma, of_expr, of_variable, Comparator, equal, spell_comparator, Comparison, compare, Subcondition, Condition, of_comparison, of_subcondition, of_condition, Mode, int, byte, ref_int, ref_byte, ref_record, ref_array, ref_array_brackets, Amode, simple, records, of_mode, of_amode, Fields, field, also, next, of_fields, plain, given, of_inits, Value, constant, signed, minus_signed, identifier, string, empty_list, list, Values, only, and, Entry, once, repeated, of_value, of_values, of_entry, Dec, nothing, variables, arrays, structures, of_dec, Local, local, of_local, Locals, no_locals, locals, of_locals, Destination, place, val, of_destination, Body, body, Sequence, single, sequel, Statement, dummy, block, assign, invoke, invoke_on, branch, branch_else, repeat, loop, return, return_with, Arms, when, elsewhen, of_body, of_sequence, of_statement, of_arms, Brick, store, procedure, of_brick, Moditem, blank, external_procs, external_store, record_mode, own, entry, of_moditem, Module, of_module}
 use Rattle.grammar.specs.Machine.{start, final, assigned, started, branched, inside, declares, enclose, returns, bare, to_array, refers, fielded, Setting, stored, inblock, Sort, unset, set, Initial, Declared, value, via, chained, initial, stored_name, listed, entered, exprs, ors, ands, statements, modes, entries, moditems, declareds, decs, Goal, tok, all, each, rest, closed_on, a_source, compared, arms_on, returned, a_body, dims, an_amode, maybe_mode, maybe_modes, the_fields, fields_on, a_further, maybe_fields, given_on, chain, a_value, times_on, maybe_values, a_brick, an_expr, a_statement, a_mode, adds, Forest, Move, refuse, mapped, then, orelse, never, at_mode, at_all, just_name, a_module, of_initial, of_declared}
-use Rattle.grammar.proofs.Spell.{}
 use Rattle.grammar.proofs.Read.{read, Off, Like, Chains, off, like, chains, all_is, ors_is}
 use Rattle.grammar.proofs.Expressions.{Ends, index_at, exprs_read, expr_read}
 use Rattle.grammar.proofs.Sources.{start_read, source_starts, chain_starts, start_onto}
 
 compare_ends : (o : Comparator) (v : List Token) → Ends (key (spell_comparator o) ∷ v)
 compare_ends equal v = ((refl, refl, refl), refl)
-compare_ends unequal v = ((refl, refl, refl), refl)
-compare_ends less v = ((refl, refl, refl), refl)
-compare_ends at_most v = ((refl, refl, refl), refl)
-compare_ends greater v = ((refl, refl, refl), refl)
-compare_ends at_least v = ((refl, refl, refl), refl)
-compare_ends same_place v = ((refl, refl, refl), refl)
-compare_ends other_place v = ((refl, refl, refl), refl)
+compare_ends _ v = ((refl, refl, refl), refl)
 
 -- What may not stand behind: a statement; a declared name with its value; a declaration.
 abbrev Calm : List Token → Type 0
@@ -60,16 +53,10 @@ modeless_arms (elsewhen ws c s) v = modeless_arms ws _
 
 modeless_statement : (s : Statement) (v : List Token) → Modeless v → Modeless (of_statement s v)
 modeless_statement dummy v h = h
-modeless_statement (block b) v h = refl
 modeless_statement (assign ds e) v h = modeless_destinations ds _
-modeless_statement (invoke n i) v h = refl
-modeless_statement (invoke_on n i es) v h = refl
 modeless_statement (branch ws) v h = modeless_arms ws _
 modeless_statement (branch_else ws s) v h = modeless_arms ws _
-modeless_statement (repeat e b) v h = refl
-modeless_statement (loop c s) v h = refl
-modeless_statement (return i) v h = refl
-modeless_statement (return_with i j e) v h = refl
+modeless_statement _ v h = refl
 
 modeless_sequence : (s : Sequence) (v : List Token) → Modeless v → Modeless (of_sequence s v)
 modeless_sequence (single s) v h = modeless_statement s v h
@@ -108,13 +95,7 @@ module _ {R : Type 0} where
   -- conditions
   compare_at : (o : Comparator) (α : List Goal) (v : List Token) (k : Forest (compared ∷ α) → R) → read (compared ∷ α) (key (spell_comparator o) ∷ v) k ≡ read (an_expr ∷ α) v (λ g. k ((o, g.0), g.1))
   compare_at equal α v k = refl
-  compare_at unequal α v k = refl
-  compare_at less α v k = refl
-  compare_at at_most α v k = refl
-  compare_at greater α v k = refl
-  compare_at at_least α v k = refl
-  compare_at same_place α v k = refl
-  compare_at other_place α v k = refl
+  compare_at _ α v k = refl
 
   comparison_read : (c : Comparison) (α : List Goal) (v : List Token) (k : Forest (each ands ∷ α) → R) → Ends v → read (each ands ∷ α) (of_comparison c v) k ≡ read α v (λ f. k (c, f))
   comparison_read (compare a o b) α v k h = chains (each ands) an_expr compared (λ a p. compare a p.0 p.1) α (of_comparison (compare a o b) v) k (comparison_chains (of_comparison (compare a o b) v)) ∙ expr_read a (compared ∷ α) (key (spell_comparator o) ∷ of_expr b v) _ (compare_ends o (of_expr b v)) ∙ compare_at o α (of_expr b v) (λ g. k (compare a g.0.0 g.0.1, g.1)) ∙ expr_read b α v _ h
@@ -145,13 +126,9 @@ module _ {R : Type 0} where
 
   mutual
     mode_read : (m : Mode) (α : List Goal) (v : List Token) (k : Forest (a_mode ∷ α) → R) → read (a_mode ∷ α) (of_mode m v) k ≡ read α v (λ f. k (m, f))
-    mode_read int α v k = refl
-    mode_read (byte i) α v k = refl
-    mode_read ref_int α v k = refl
-    mode_read (ref_byte i) α v k = refl
-    mode_read (ref_record n) α v k = refl
     mode_read (ref_array m) α v k = dims_bare m α v (λ g. k (refers (to_array g.0), g.1)) ∙ amode_read m α v (λ g. k (ref_array g.0, g.1))
     mode_read (ref_array_brackets i m) α v k = amode_read m α v (λ g. k (ref_array_brackets i g.0, g.1))
+    mode_read _ α v k = refl
 
     amode_read : (m : Amode) (α : List Goal) (v : List Token) (k : Forest (an_amode ∷ α) → R) → read (an_amode ∷ α) (of_amode m v) k ≡ read α v (λ f. k (m, f))
     amode_read (simple m) α v k = by_mode (an_amode ∷ α) (a_mode ∷ α) k (λ g. k (simple g.0, g.1)) (λ i w. refl) (λ i w. refl) (λ i w. refl) m v ∙ mode_read m α v (λ g. k (simple g.0, g.1))
@@ -205,20 +182,18 @@ module _ {R : Type 0} where
   value_alike (empty_list i) γ δ j k v S = S.by_left i (key RIGHT ∷ v)
   value_alike (list i vs) γ δ j k v S = S.by_left i (of_values vs (key RIGHT ∷ v))
 
+  values_alike : (α : List Goal) (k : Forest (maybe_values ∷ α) → R) (v : List Token) → ValuesAlike R (maybe_values ∷ α) k (all entries ∷ α) (λ g. k (some g.0, g.1)) v
+  values_alike α k v = record { by_integer = λ i w. refl; by_plus = λ i w. refl; by_minus = λ i w. refl; by_text = λ i w. refl; by_left = λ i w. refl; by_name = λ n. refl }
+
   values_there : (vs : Values) (α : List Goal) (v : List Token) (k : Forest (maybe_values ∷ α) → R) → read (maybe_values ∷ α) (of_values vs v) k ≡ read (all entries ∷ α) (of_values vs v) (λ g. k (some g.0, g.1))
-  values_there (only (once x)) α v k = value_alike x (maybe_values ∷ α) (all entries ∷ α) k (λ g. k (some g.0, g.1)) v (record { by_integer = λ i w. refl; by_plus = λ i w. refl; by_minus = λ i w. refl; by_text = λ i w. refl; by_left = λ i w. refl; by_name = λ n. refl })
-  values_there (only (repeated x i n)) α v k = value_alike x (maybe_values ∷ α) (all entries ∷ α) k (λ g. k (some g.0, g.1)) (token LEFT i ∷ token INTEGER n ∷ key RIGHT ∷ v) (record { by_integer = λ i w. refl; by_plus = λ i w. refl; by_minus = λ i w. refl; by_text = λ i w. refl; by_left = λ i w. refl; by_name = λ n. refl })
+  values_there (only (once x)) α v k = value_alike x _ _ _ _ v (values_alike α k v)
+  values_there (only (repeated x i n)) α v k = value_alike x _ _ _ _ _ (values_alike α k (token LEFT i ∷ token INTEGER n ∷ key RIGHT ∷ v))
   values_there (and vs e) α v k = values_there vs α (key COMMA ∷ of_entry e v) k
 
   mutual
     value_read : (x : Value) (α : List Goal) (v : List Token) (k : Forest (a_value ∷ α) → R) → read (a_value ∷ α) (of_value x v) k ≡ read α v (λ f. k (x, f))
-    value_read (constant i) α v k = refl
-    value_read (signed s i) α v k = refl
-    value_read (minus_signed s i) α v k = refl
-    value_read (identifier n) α v k = refl
-    value_read (string i) α v k = refl
-    value_read (empty_list i) α v k = refl
     value_read (list i vs) α v k = values_there vs (tok RIGHT ∷ α) (key RIGHT ∷ v) (λ g. k (listed i g.0, g.1.1)) ∙ values_read vs (tok RIGHT ∷ α) (key RIGHT ∷ v) (λ g. k (list i g.0, g.1.1)) refl
+    value_read _ α v k = refl
 
     entry_read : (e : Entry) (α : List Goal) (v : List Token) (k : Forest (each entries ∷ α) → R) → Off times_on none v → read (each entries ∷ α) (of_entry e v) k ≡ read α v (λ f. k (e, f))
     entry_read (once x) α v k h = entry_value x α v k ∙ value_read x (times_on ∷ α) v (λ g. k (entered g.0 g.1.0, g.1.1)) ∙ off times_on none α v (λ g. k (entered x g.0, g.1)) h
@@ -230,12 +205,7 @@ module _ {R : Type 0} where
 
     entry_value : (x : Value) (α : List Goal) (v : List Token) (k : Forest (each entries ∷ α) → R) → read (each entries ∷ α) (of_value x v) k ≡ read (a_value ∷ times_on ∷ α) (of_value x v) (λ g. k (entered g.0 g.1.0, g.1.1))
     entry_value (constant i) α v k = refl
-    entry_value (signed s i) α v k = refl
-    entry_value (minus_signed s i) α v k = refl
-    entry_value (identifier n) α v k = refl
-    entry_value (string i) α v k = refl
-    entry_value (empty_list i) α v k = refl
-    entry_value (list i vs) α v k = refl
+    entry_value _ α v k = refl
 
   -- declarations
   via_at : (v : Setting) (n : ℕ) (α : List Goal) (w : List Token) (k : Forest (chain v ∷ α) → R) → read (chain v ∷ α) (token NAME n ∷ key BECOMES ∷ w) k ≡ read (chain v ∷ α) w (λ g. k (via n g.0, g.1))
@@ -244,12 +214,8 @@ module _ {R : Type 0} where
 
   chain_read : (v : Setting) (a : Initial v) (α : List Goal) (w : List Token) (k : Forest (chain v ∷ α) → R) → Set (set v) w → read (chain v ∷ α) (of_initial v a w) k ≡ read α w (λ f. k (value a, f))
   chain_read stored (identifier n) α w k h = off (given_on stored) none α w (λ g. k (stored_name n g.0, g.1)) h
-  chain_read stored (constant i) α w k h = refl
-  chain_read stored (signed s i) α w k h = refl
-  chain_read stored (minus_signed s i) α w k h = refl
-  chain_read stored (string i) α w k h = refl
-  chain_read stored (empty_list i) α w k h = refl
   chain_read stored (list i vs) α w k h = value_read (list i vs) α w (λ g. k (value g.0, g.1))
+  chain_read stored _ α w k h = refl
   chain_read inblock e α w k h = start_read (chain inblock) value chain_starts e α w k h.1
 
   names_read : (v : Setting) (ns : Many ℕ) (α : List Goal) (w : List Token) (k : Forest (each (declareds (set v)) ∷ α) → R) → read (each (declareds (set v)) ∷ α) (of_many of_name BECOMES ns (key BECOMES ∷ w)) k ≡ read (chain v ∷ α) w (λ g. k (chained ns g.0, g.1))

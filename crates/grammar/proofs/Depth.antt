@@ -1,7 +1,7 @@
 -- What a tree opens it closes. Assumes nothing.
-use Rattle.std.proofs.Common.{◌≡◌, ℕ, zero, suc, ◌+◌, ◌≤◌, Bool, true, false, cond, List, [], ◌∷◌, ◌++◌, sym, refl, ap, ◌∙◌, arith}
+use Rattle.std.proofs.Common.{◌≡◌, ℕ, suc, ◌+◌, ◌≤◌, Bool, true, false, cond, List, [], ◌∷◌, ◌++◌, sym, refl, ap, ◌∙◌, arith}
 use Rattle.grammar.specs.Symbols.{AND, END, ENDBLOCK, ENDDATA, ENDPROC, OR, REP, RIGHT, COMMA, SEMI, BECOMES, Symbol}
-use Rattle.grammar.specs.Trees.{Token, token, key, Spelling, Many, one, more, of_many, Opt, none, some, of_opt, of_name, of_names, Dyadic, times, divide, modulo, land, lor, nev, plus, minus, spell, Monadic, positive, negative, absolute, complement, narrow, size, spell_monadic, Expr, term, up, dyadic, Term, monadic, primary, Primary, integer, text, variable, call, call_on, paren, Variable, name, element, component, Exprs, first, comma, of_expr, of_term, of_primary, of_variable, of_exprs, Comparator, equal, unequal, less, at_most, greater, at_least, same_place, other_place, spell_comparator, Comparison, compare, Condition, of_comparison, of_subcondition, of_condition, Mode, int, byte, ref_int, ref_byte, ref_record, ref_array, ref_array_brackets, Amode, simple, records, of_mode, of_amode, Fields, field, also, next, of_fields, Init, plain, given, of_init, of_inits, Value, constant, signed, minus_signed, identifier, string, empty_list, list, Values, only, and, Entry, once, repeated, of_value, of_values, of_entry, Dec, nothing, variables, arrays, structures, of_dec, Local, local, of_local, Locals, no_locals, locals, of_locals, Destination, place, val, of_destination, Body, body, Sequence, single, sequel, Statement, dummy, block, assign, invoke, invoke_on, branch, branch_else, repeat, loop, return, return_with, Arms, when, elsewhen, of_body, of_sequence, of_statement, of_arms, Brick, store, procedure, of_brick, Moditem, blank, external_procs, external_store, record_mode, own, entry, of_moditem, Module, of_module}
+use Rattle.grammar.specs.Trees.{Token, token, key, Spelling, Many, one, more, of_many, Opt, none, some, of_opt, of_name, of_names, Dyadic, times, spell, Monadic, positive, spell_monadic, Expr, term, up, dyadic, Term, monadic, primary, Primary, variable, call_on, paren, Variable, name, element, component, Exprs, first, comma, of_expr, of_term, of_primary, of_variable, of_exprs, Comparator, equal, spell_comparator, Comparison, compare, Condition, of_comparison, of_subcondition, of_condition, Mode, ref_array, ref_array_brackets, Amode, simple, records, of_mode, of_amode, Fields, field, also, next, of_fields, Init, plain, given, of_init, of_inits, Value, list, Values, only, and, Entry, once, repeated, of_value, of_values, of_entry, Dec, nothing, variables, arrays, structures, of_dec, Local, local, of_local, Locals, no_locals, locals, of_locals, Destination, place, val, of_destination, Body, body, Sequence, single, sequel, Statement, block, assign, invoke_on, branch, branch_else, repeat, loop, return_with, Arms, when, elsewhen, of_body, of_sequence, of_statement, of_arms, Brick, store, procedure, of_brick, Moditem, blank, external_procs, external_store, record_mode, own, entry, of_moditem, Module, of_module}
 use Rattle.grammar.specs.Sentences.{symbols, Sentence, Viable, count, opens, closes, Balanced}
 use Rattle.grammar.specs.Machine.{fewer}
 use Rattle.grammar.proofs.Right.{open_not_close}
@@ -26,21 +26,11 @@ Even of a = (n : ℕ) (r : List Token) → open_after n (of a r) ≡ open_after 
 
 even_op : {l : ℕ} (o : Dyadic l) (i n : ℕ) (r : List Token) → open_after n (token (spell o) i ∷ r) ≡ open_after n r
 even_op times i n r = refl
-even_op divide i n r = refl
-even_op modulo i n r = refl
-even_op land i n r = refl
-even_op lor i n r = refl
-even_op nev i n r = refl
-even_op plus i n r = refl
-even_op minus i n r = refl
+even_op _ i n r = refl
 
 even_monadic : (o : Monadic) (i n : ℕ) (r : List Token) → open_after n (token (spell_monadic o) i ∷ r) ≡ open_after n r
 even_monadic positive i n r = refl
-even_monadic negative i n r = refl
-even_monadic absolute i n r = refl
-even_monadic complement i n r = refl
-even_monadic narrow i n r = refl
-even_monadic size i n r = refl
+even_monadic _ i n r = refl
 
 mutual
   even_expr : {l : ℕ} (e : Expr l) (n : ℕ) (r : List Token) → open_after n (of_expr e r) ≡ open_after n r
@@ -53,12 +43,10 @@ mutual
   even_term (primary p) n r = even_primary p n r
 
   even_primary : (p : Primary) → Even of_primary p
-  even_primary (integer i) n r = refl
-  even_primary (text i) n r = refl
   even_primary (variable x) n r = even_variable x n r
-  even_primary (call m i) n r = refl
   even_primary (call_on m i es e) n r = even_exprs es (suc n) _ ∙ even_expr e (suc n) (key RIGHT ∷ r)
   even_primary (paren i e) n r = even_expr e (suc n) (key RIGHT ∷ r)
+  even_primary _ n r = refl
 
   even_variable : (x : Variable) → Even of_variable x
   even_variable (name m) n r = refl
@@ -82,13 +70,7 @@ even_name m n r = refl
 
 even_comparator : (o : Comparator) (n : ℕ) (r : List Token) → open_after n (key (spell_comparator o) ∷ r) ≡ open_after n r
 even_comparator equal n r = refl
-even_comparator unequal n r = refl
-even_comparator less n r = refl
-even_comparator at_most n r = refl
-even_comparator greater n r = refl
-even_comparator at_least n r = refl
-even_comparator same_place n r = refl
-even_comparator other_place n r = refl
+even_comparator _ n r = refl
 
 even_comparison : (c : Comparison) → Even of_comparison c
 even_comparison (compare a o b) n r = even_expr a n _ ∙ even_comparator o n (of_expr b r) ∙ even_expr b n r
@@ -98,13 +80,9 @@ even_condition c n r = even_many of_subcondition OR (λ n r. refl) (even_many of
 
 mutual
   even_mode : (m : Mode) → Even of_mode m
-  even_mode int n r = refl
-  even_mode (byte i) n r = refl
-  even_mode ref_int n r = refl
-  even_mode (ref_byte i) n r = refl
-  even_mode (ref_record m) n r = refl
   even_mode (ref_array m) n r = even_amode m n r
   even_mode (ref_array_brackets i m) n r = even_amode m n r
+  even_mode _ n r = refl
 
   even_amode : (m : Amode) → Even of_amode m
   even_amode (simple m) n r = even_mode m n r
@@ -124,13 +102,8 @@ even_inits of e is n r = even_many (of_init of) COMMA (λ n r. refl) (even_init 
 
 mutual
   even_value : (v : Value) → Even of_value v
-  even_value (constant i) n r = refl
-  even_value (signed s i) n r = refl
-  even_value (minus_signed s i) n r = refl
-  even_value (identifier m) n r = refl
-  even_value (string i) n r = refl
-  even_value (empty_list i) n r = refl
   even_value (list i vs) n r = even_values vs (suc n) (key RIGHT ∷ r)
+  even_value _ n r = refl
 
   even_values : (vs : Values) → Even of_values vs
   even_values (only e) n r = even_entry e n r
@@ -166,17 +139,15 @@ mutual
   even_sequence (sequel ss s) n r = even_sequence ss n _ ∙ even_statement s n r
 
   even_statement : (s : Statement) → Even of_statement s
-  even_statement dummy n r = refl
   even_statement (block b) n r = even_body b (suc n) (key ENDBLOCK ∷ r)
   even_statement (assign ds e) n r = even_many of_destination BECOMES (λ n r. refl) even_destination ds n _ ∙ even_expr e n r
-  even_statement (invoke m i) n r = refl
   even_statement (invoke_on m i es) n r = even_exprs es (suc n) (key RIGHT ∷ r)
   even_statement (branch ws) n r = even_arms ws n (key END ∷ r)
   even_statement (branch_else ws s) n r = even_arms ws n _ ∙ even_sequence s (suc n) (key END ∷ r)
   even_statement (repeat e b) n r = even_expr e n _ ∙ even_body b (suc n) (key REP ∷ r)
   even_statement (loop c s) n r = even_condition c n _ ∙ even_sequence s (suc n) (key REP ∷ r)
-  even_statement (return i) n r = refl
   even_statement (return_with i j e) n r = even_expr e (suc n) (key RIGHT ∷ r)
+  even_statement _ n r = refl
 
   even_arms : (ws : Arms) (n : ℕ) (r : List Token) → open_after n (of_arms ws r) ≡ open_after (suc n) r
   even_arms (when c s) n r = even_condition c (suc n) _ ∙ even_sequence s (suc n) r
@@ -207,23 +178,11 @@ EndsAt n a b (some m) = n + a ≡ m + b
 
 counted_step : (n a b : ℕ) (o k : Bool) (q : Opt ℕ) (r : ℕ → Opt ℕ) → (o ≡ true → k ≡ false) → cond o (some (suc n)) (cond k (fewer n) (some n)) ≡ q → ((m : ℕ) → EndsAt m a b (r m)) → EndsAt n (cond o (suc a) a) (cond k (suc b) b) (later q r)
 counted_step n a b o k none r x e h = tt
-counted_step n a b true true (some m) r x e h = let z : ◌≡◌ {A = ℕ} 0 1 = (let y = x refl in cc) in absurd (omega arith)
-counted_step n a b true false (some m) r x e h = let z : suc n ≡ m = cc in shown (r m) (h m)
+counted_step n a b o k (some m) r x e h = shown (r m) (h m)
   where
-    shown : (o : Opt ℕ) → EndsAt m a b o → EndsAt n (suc a) b o
+    shown : (q : Opt ℕ) → EndsAt m a b q → EndsAt n (cond o (suc a) a) (cond k (suc b) b) q
     shown none p = tt
-    shown (some l) p = let z : suc n ≡ m = cc in omega arith
-counted_step zero a b false true (some m) r x e h = let z : ◌≡◌ {A = ℕ} 0 1 = cc in absurd (omega arith)
-counted_step (suc n) a b false true (some m) r x e h = shown (r m) (h m)
-  where
-    shown : (o : Opt ℕ) → EndsAt m a b o → EndsAt (suc n) a (suc b) o
-    shown none p = tt
-    shown (some l) p = let z : n ≡ m = cc in omega arith
-counted_step n a b false false (some m) r x e h = shown (r m) (h m)
-  where
-    shown : (o : Opt ℕ) → EndsAt m a b o → EndsAt n a b o
-    shown none p = tt
-    shown (some l) p = let z : n ≡ m = cc in omega arith
+    shown (some l) p = grind arith
 
 counted : (w : List Symbol) (n : ℕ) → EndsAt n (count opens w) (count closes w) (steady n w)
 counted [] n = refl

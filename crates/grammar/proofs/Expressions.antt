@@ -1,7 +1,7 @@
 -- Every expression is read back from its items. Assumes nothing.
 use Rattle.std.proofs.Common.{◌≡◌, ℕ, Bool, false, cond, List, [], ◌∷◌, sym, refl, ap, ◌∙◌}
 use Rattle.grammar.specs.Symbols.{NAME, INTEGER, TEXT, LEFT, RIGHT, COMMA, DOT, BECOMES, same, Symbol}
-use Rattle.grammar.specs.Trees.{Token, token, symbol, key, none, some, Dyadic, times, divide, modulo, land, lor, nev, plus, minus, spell, Monadic, positive, negative, absolute, complement, narrow, size, spell_monadic, Expr, term, up, dyadic, Term, monadic, primary, Primary, integer, text, variable, call, call_on, paren, Variable, name, element, component, Exprs, first, comma, of_expr, of_term, of_primary, of_variable, of_exprs}
+use Rattle.grammar.specs.Trees.{Token, token, symbol, key, none, some, Dyadic, times, divide, modulo, land, lor, nev, plus, minus, spell, Monadic, positive, spell_monadic, Expr, term, up, dyadic, Term, monadic, primary, Primary, integer, text, variable, call, call_on, paren, Variable, name, element, component, Exprs, first, comma, of_expr, of_term, of_primary, of_variable, of_exprs}
 use Rattle.grammar.specs.Machine.{Flat, here, below, link, State, close, fresh, put, folds, Stand, inner, start, right, plug, argument, goes, Result, finish, gather, finish_calls, finish_closed, finish_arguments, finish_named, exprs, Goal, tok, rest, links_on, a_term, a_primary, named, arguments, argued, closed_on, parts, an_expr, Tree, Forest, Move, shift, on, mapped, behind, pull, Seen, just_name, one_index, longer, var_of, indexed, seen, next_goal}
 use Rattle.grammar.proofs.Spell.{spell_flat}
 use Rattle.grammar.proofs.Read.{read, Off, Chains, off, chains, expr_is}
@@ -29,13 +29,7 @@ Stays (u ∷ w) = (same (symbol u) LEFT ≡ false) × (same (symbol u) DOT ≡ f
 
 pub stays_op : {n : ℕ} (o : Dyadic n) (i : ℕ) (w : List Token) → Stays (token (spell o) i ∷ w)
 stays_op times i w = (refl, refl, refl)
-stays_op divide i w = (refl, refl, refl)
-stays_op modulo i w = (refl, refl, refl)
-stays_op land i w = (refl, refl, refl)
-stays_op lor i w = (refl, refl, refl)
-stays_op nev i w = (refl, refl, refl)
-stays_op plus i w = (refl, refl, refl)
-stays_op minus i w = (refl, refl, refl)
+stays_op _ i w = (refl, refl, refl)
 
 abbrev pub Ends : List Token → Type 0
 Ends v = Stays v × Off links_on [] v
@@ -56,20 +50,12 @@ mutual
 
   heads_term : (t : Term) (v : List Token) → heads RIGHT (of_term t v) ≡ false
   heads_term (monadic positive i t) v = refl
-  heads_term (monadic negative i t) v = refl
-  heads_term (monadic absolute i t) v = refl
-  heads_term (monadic complement i t) v = refl
-  heads_term (monadic narrow i t) v = refl
-  heads_term (monadic size i t) v = refl
+  heads_term (monadic _ i t) v = refl
   heads_term (primary p) v = heads_primary p v
 
   heads_primary : (p : Primary) (v : List Token) → heads RIGHT (of_primary p v) ≡ false
-  heads_primary (integer i) v = refl
-  heads_primary (text i) v = refl
   heads_primary (variable x) v = heads_variable x v
-  heads_primary (call n i) v = refl
-  heads_primary (call_on n i es e) v = refl
-  heads_primary (paren i e) v = refl
+  heads_primary _ v = refl
 
   heads_variable : (x : Variable) (v : List Token) → heads RIGHT (of_variable x v) ≡ false
   heads_variable (name n) v = refl
@@ -78,8 +64,7 @@ mutual
 
 indexed_var : (s : Seen) (i : ℕ) (e : Expr 5) → var_of (indexed s i e) ≡ element (var_of s) i e
 indexed_var (just_name n) i e = refl
-indexed_var (one_index n j x) i e = refl
-indexed_var (longer v) i e = refl
+indexed_var _ i e = refl
 
 pub seen_var : (v : Variable) → var_of (seen v) ≡ v
 seen_var (name n) = refl
@@ -134,11 +119,7 @@ module _ {R : Type 0} where
 
   monadic_at : (o : Monadic) (i : ℕ) (α : List Goal) (w : List Token) (k : Forest (a_term ∷ α) → R) → read (a_term ∷ α) (token (spell_monadic o) i ∷ w) k ≡ read (a_term ∷ α) w (λ g. k (monadic o i g.0, g.1))
   monadic_at positive i α w k = refl
-  monadic_at negative i α w k = refl
-  monadic_at absolute i α w k = refl
-  monadic_at complement i α w k = refl
-  monadic_at narrow i α w k = refl
-  monadic_at size i α w k = refl
+  monadic_at _ i α w k = refl
 
   -- a whole expression
   pub whole : (e : Expr 5) → TermRead R (head e) → Spine R 5 e → ExprRead R e
@@ -154,11 +135,9 @@ module _ {R : Type 0} where
 
   -- one more part of a form
   select_at : (s : Seen) (w : Stand) (α : List Goal) (n : ℕ) (v : List Token) (k : Result w × Forest α → R) → read (next_goal s w ∷ α) (key DOT ∷ token NAME n ∷ v) (λ g. k (result s w g.0, g.1)) ≡ read (parts w ∷ α) v (λ g. k (finish w (plug (component (var_of s) n) g.0.0) g.0.1, g.1))
-  select_at (just_name m) w α n v k = refl
   select_at (one_index m i e) inner α n v k = refl
-  select_at (one_index m i e) start α n v k = refl
-  select_at (one_index m i e) right α n v k = refl
-  select_at (longer x) w α n v k = refl
+  select_at (one_index m i e) _ α n v k = refl
+  select_at _ w α n v k = refl
 
   pub index_at : (s : Seen) (w : Stand) (α : List Goal) (i : ℕ) (e : Expr 5) (v : List Token) (k : Result w × Forest α → R) → ExprRead R e → read (next_goal s w ∷ α) (token LEFT i ∷ of_expr e (key RIGHT ∷ v)) (λ g. k (result s w g.0, g.1)) ≡ read (next_goal (indexed s i e) w ∷ α) v (λ g. k (result (indexed s i e) w g.0, g.1))
   index_at (just_name m) w α i e v k E = arguments_is w α (of_expr e (key RIGHT ∷ v)) _ (heads_expr e _) ∙ E (argued w ∷ α) (key RIGHT ∷ v) _ ((refl, refl, refl), refl)

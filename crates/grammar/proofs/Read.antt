@@ -78,15 +78,12 @@ module _ {R : Type 0} where
 
   -- a goal that moves as another does
   mapped_passes : (x y : Goal) (f : Tree y → Tree x) (α : List Goal) (n : ℕ) (w : List Token) (k : Forest (x ∷ α) → R) (m : Move (Tree y)) (o : Opt (Left α)) → passes (x ∷ α) (taken x α (mapped f m) o) (λ β h. read β w (λ g. k (h n g))) ≡ passes (y ∷ α) (taken y α m o) (λ β h. read β w (λ g. k (f (h n g).0, (h n g).1)))
-  mapped_passes x y f α n w k (shift push build) o = refl
   mapped_passes x y f α n w k (skip t) none = refl
-  mapped_passes x y f α n w k (skip t) (some l) = refl
-  mapped_passes x y f α n w k refuse o = refl
+  mapped_passes x y f α n w k _ _ = refl
 
   mapped_ends : {A B C : Type 0} (f : B → A) (k : A × C → R) (o : Opt B) (p : Opt C) → map_opt k (pair (map_opt f o) p) ≡ map_opt (λ g. k (f g.0, g.1)) (pair o p)
-  mapped_ends f k none p = refl
   mapped_ends f k (some b) none = refl
-  mapped_ends f k (some b) (some c) = refl
+  mapped_ends f k _ _ = refl
 
   pub like : (x y : Goal) (f : Tree y → Tree x) (α : List Goal) (v : List Token) (k : Forest (x ∷ α) → R) → Like x y f v → read (x ∷ α) v k ≡ read (y ∷ α) v (λ g. k (f g.0, g.1))
   like x y f α [] k e = ap (λ (o : Opt (Tree x)). map_opt k (pair o (done α))) e ∙ mapped_ends f k (void y) (done α)
@@ -103,10 +100,8 @@ module _ {R : Type 0} where
   followed_passes x z y join α c n w k refuse = refl
 
   followed_ends : {A B C D : Type 0} (join : A → B → C) (k : C × D → R) (o : Opt A) (p : Opt B) (q : Opt D) → map_opt k (pair (join_opt join o p) q) ≡ map_opt (λ g. k (join g.0 g.1.0, g.1.1)) (pair o (pair p q))
-  followed_ends join k none p q = refl
-  followed_ends join k (some a) none q = refl
   followed_ends join k (some a) (some b) none = refl
-  followed_ends join k (some a) (some b) (some d) = refl
+  followed_ends join k _ _ _ = refl
 
   pub chains : (x z y : Goal) (join : Tree z → Tree y → Tree x) (α : List Goal) (v : List Token) (k : Forest (x ∷ α) → R) → Chains x z y join v → read (x ∷ α) v k ≡ read (z ∷ y ∷ α) v (λ g. k (join g.0 g.1.0, g.1.1))
   chains x z y join α [] k e = ap (λ (o : Opt (Tree x)). map_opt k (pair o (done α))) e ∙ followed_ends join k (void z) (void y) (done α)

@@ -1,5 +1,5 @@
 -- What the machine answers is right. Assumes nothing.
-use Rattle.std.proofs.Common.{◌≡◌, ℕ, zero, suc, ◌+◌, Bool, true, false, cond, List, [], ◌∷◌, ◌++◌, length, sym, refl, ap, ◌∙◌, subst, append_assoc, arith}
+use Rattle.std.proofs.Common.{◌≡◌, ℕ, suc, ◌+◌, Bool, true, false, cond, List, [], ◌∷◌, ◌++◌, length, sym, refl, ap, ◌∙◌, subst, append_assoc, arith}
 use Rattle.grammar.specs.Symbols.{BLOCK, DO, IF, LEFT, same, same_true, among, Symbol}
 use Rattle.grammar.specs.Trees.{Token, mark, Opt, none, some, Module, of_module}
 use Rattle.grammar.specs.Sentences.{symbols, items, Made, Sentence, Viable, count, opens, closes, Full, Shallow, Stops, Sinks, Answer, fine, bad, deep, Meaning, OneTree, MadeSentence, Unique, NothingAfter}
@@ -10,7 +10,7 @@ use Rattle.grammar.proofs.Read.{read, read_accepts}
 use Rattle.grammar.proofs.Complete.{module_read}
 
 pub clash : {b : Bool} → b ≡ true → b ≡ false → ⊥
-clash p q = let z : ◌≡◌ {A = ℕ} 0 1 = cc in omega arith
+clash p q = grind arith
 
 -- every tree's symbols are accepted
 pub complete : (m : Module) → accepts a_module (symbols (of_module m [])) ≡ true
@@ -37,7 +37,7 @@ back_to : (γ : List Goal) (c : Symbol) → BacksTo γ c (step_to γ c)
 back_to γ c = backs_to γ c (step γ c) (back_step γ c)
 
 ends_blank : (γ : List Goal) (o : Opt (Forest γ)) → Blanks γ o → is_some o ≡ true → (f : Forest γ) × (of_forest γ f ≡ [])
-ends_blank γ none b h = let z : ◌≡◌ {A = ℕ} 0 1 = cc in absurd (omega arith)
+ends_blank γ none b h = let z : ⊥ = grind arith in absurd z
 ends_blank γ (some f) b h = (f, b)
 
 empty_forest : (γ : List Goal) → may_end γ ≡ true → (f : Forest γ) × (of_forest γ f ≡ [])
@@ -46,7 +46,7 @@ empty_forest γ h = ends_blank γ (done γ) (blank_forest γ) h
 -- what is accepted is made of the items read
 module _ (c : Symbol) (w : List Symbol) (n : ℕ) where
   made_step : (γ : List Goal) (o : Opt (List Goal)) → BacksTo γ c o → ((β : List Goal) → accepts β w ≡ true → (f : Forest β) × (of_forest β f ≡ items (suc n) w)) → onward o (λ β. accepts β w) ≡ true → (f : Forest γ) × (of_forest γ f ≡ items n (c ∷ w))
-  made_step γ none b ih h = let z : ◌≡◌ {A = ℕ} 0 1 = cc in absurd (omega arith)
+  made_step γ none b ih h = let z : ⊥ = grind arith in absurd z
   made_step γ (some β) b ih h = let g = ih β h in let f = b n g.0 in (f.0, f.1 ∙ ap (λ (v : List Token). mark c n ∷ v) g.1)
 
 made : (γ : List Goal) (n : ℕ) (w : List Symbol) → accepts γ w ≡ true → (f : Forest γ) × (of_forest γ f ≡ items n w)
@@ -94,8 +94,8 @@ Says n γ i w (bad e) = (u : List Symbol) × (v : List Symbol) × (w ≡ u ++ v)
 Says n γ i w (deep e) = (u : List Symbol) × (v : List Symbol) × (w ≡ u ++ v) × (i + length u ≡ e) × Plunges n γ u v × Shallow n u
 
 no_cons : (c : Symbol) (q p : List Symbol) → [] ≡ p ++ (c ∷ q) → ⊥
-no_cons c q [] e = let z : ◌≡◌ {A = ℕ} 0 1 = cc in omega arith
-no_cons c q (a ∷ p) e = let z : ◌≡◌ {A = ℕ} 0 1 = cc in omega arith
+no_cons c q [] e = grind arith
+no_cons c q (a ∷ p) e = grind arith
 
 shallow_none : (n : ℕ) → Shallow n []
 shallow_none n p c q e o f = no_cons c q p e
@@ -117,22 +117,13 @@ abbrev Level : ℕ → Bool → Bool → Opt ℕ
 Level n o k = cond o (fewer n) (cond k (some (suc n)) (some n))
 
 full_step : (n d a b : ℕ) (o k : Bool) → (o ≡ true → k ≡ false) → Level n o k ≡ some d → ((cond o (suc a) a ≡ n + cond k (suc b) b) → a ≡ d + b) × (a ≡ d + b → (cond o (suc a) a ≡ n + cond k (suc b) b))
-full_step n d a b true true x e = let z : ◌≡◌ {A = ℕ} 0 1 = (let y = x refl in cc) in omega arith
-full_step zero d a b true false x e = let z : ◌≡◌ {A = ℕ} 0 1 = cc in omega arith
-full_step (suc n) d a b true false x e = let z : n ≡ d = cc in omega arith
-full_step n d a b false true x e = let z : suc n ≡ d = cc in omega arith
-full_step n d a b false false x e = let z : n ≡ d = cc in omega arith
+full_step n d a b o k x e = (λ h. grind arith, λ h. grind arith)
 
 stuck : (n : ℕ) (o k : Bool) → Level n o k ≡ none → (o ≡ true) × (n ≡ 0)
-stuck zero true k e = (refl, refl)
-stuck (suc n) true k e = (refl, cc)
-stuck n false true e = (cc, cc)
-stuck n false false e = (cc, cc)
+stuck n o k e = (grind arith, grind arith)
 
 unstuck : (n d : ℕ) (o k : Bool) → Level n o k ≡ some d → o ≡ true → 0 ≡ n + 0 → ⊥
-unstuck zero d true k e h z = let y : ◌≡◌ {A = ℕ} 0 1 = cc in omega arith
-unstuck (suc n) d true k e h z = omega arith
-unstuck n d false k e h z = clash h refl
+unstuck n d o k e h z = grind arith
 
 module _ (n d : ℕ) (c : Symbol) (l : level n c ≡ some d) where
   full_in : (w : List Symbol) → Full n (c ∷ w) → Full d w
@@ -221,7 +212,7 @@ follows_begins γ [] h = least_begins γ
 follows_begins γ (c ∷ w) h = by (step_to γ c) (back_to γ c) (λ β. follows_begins β w) h
   where
     by : (o : Opt (List Goal)) → BacksTo γ c o → ((β : List Goal) → follows β w ≡ true → Begins β w) → onward o (λ β. follows β w) ≡ true → Begins γ (c ∷ w)
-    by none b ih h = let z : ◌≡◌ {A = ℕ} 0 1 = cc in absurd (omega arith)
+    by none b ih h = let z : ⊥ = grind arith in absurd z
     by (some β) b ih h = let g = ih β h in let f = b 0 g.1 in (g.0, f.0, ap symbols f.1 ∙ ap (λ (v : List Symbol). c ∷ v) g.2)
 
 pub viable_fronts_lem : ViableFronts

@@ -92,8 +92,7 @@ back_named w c = back_on (of_named w) c LEFT _ _ _ (λ n α g. refl) (back_mappe
 
 pull_of : (w : Stand) (α : List Goal) (g : Forest (behind w α)) → of_rest w (pull w α g).0 (of_forest α (pull w α g).1) ≡ of_forest (behind w α) g
 pull_of inner α g = refl
-pull_of start α g = refl
-pull_of right α g = refl
+pull_of _ α g = refl
 
 more_exprs : (es : List (Expr 5)) (r : List Token) → of_more_exprs es r ≡ of_more exprs es r
 more_exprs [] r = refl
@@ -245,14 +244,7 @@ back_moditem c =
 -- repetitions
 back_separator : (r : Repetition) → (n : ℕ) → mark (separator r) n ≡ key (separator r)
 back_separator exprs n = refl
-back_separator ors n = refl
-back_separator ands n = refl
-back_separator statements n = refl
-back_separator modes n = refl
-back_separator entries n = refl
-back_separator moditems n = refl
-back_separator (declareds s) n = refl
-back_separator (decs s) n = refl
+back_separator _ n = refl
 
 back_rest : (r : Repetition) (c : Symbol) → Back (of_more r) c (at_rest r c)
 back_rest r c = back_on (of_more r) c (separator r) _ _ _ (λ n α g. ap (λ t. t ∷ of_single r g.0 (of_more r g.1.0 (of_forest α g.1.1))) (sym (back_separator r n))) (λ x. refl)
@@ -334,15 +326,10 @@ Blank x none = Unit {0}
 Blank x (some t) = (r : List Token) → of_goal x t r ≡ r
 
 blank_each : (r : Repetition) → Blank (each r) (void_each r)
-blank_each exprs = tt
-blank_each ors = tt
-blank_each ands = tt
 blank_each statements = λ r. refl
-blank_each modes = tt
-blank_each entries = tt
 blank_each moditems = λ r. refl
-blank_each (declareds s) = tt
 blank_each (decs s) = λ r. refl
+blank_each _ = tt
 
 blank_all : (r : Repetition) (o : Opt (Single r)) → Blank (each r) o → Blank (all r) (map_opt (begun r) o)
 blank_all r none b = tt
@@ -360,44 +347,27 @@ blank_parts right = λ r. refl
 
 blank_closed : (w : Stand) → Blank (closed_on w) (void_closed w)
 blank_closed inner = λ r. refl
-blank_closed start = λ r. refl
-blank_closed right = λ r. refl
+blank_closed _ = λ r. refl
 
 blank_goal : (x : Goal) → Blank x (void x)
-blank_goal (tok k) = tt
 blank_goal (all r) = blank_all r (void_each r) (blank_each r)
 blank_goal (each r) = blank_each r
 blank_goal (rest r) = λ x. refl
 blank_goal links_on = λ r. refl
-blank_goal a_term = tt
-blank_goal a_primary = tt
 blank_goal (named w) = blank_named w
-blank_goal (arguments w) = tt
-blank_goal (argued w) = tt
 blank_goal (closed_on w) = blank_closed w
 blank_goal (parts w) = blank_parts w
-blank_goal a_source = tt
-blank_goal compared = tt
-blank_goal arms_on = tt
 blank_goal returned = λ r. refl
 blank_goal a_body = λ r. refl
-blank_goal a_target = tt
-blank_goal dims = tt
-blank_goal an_amode = tt
 blank_goal maybe_mode = λ r. refl
 blank_goal maybe_modes = λ r. refl
-blank_goal the_fields = tt
 blank_goal fields_on = λ r. refl
-blank_goal a_further = tt
 blank_goal maybe_fields = λ r. refl
 blank_goal (given_on v) = λ r. refl
-blank_goal (chain v) = tt
 blank_goal linked = λ r. refl
-blank_goal a_value = tt
 blank_goal times_on = λ r. refl
 blank_goal maybe_values = λ r. refl
-blank_goal an_external = tt
-blank_goal a_brick = tt
+blank_goal _ = tt
 
 abbrev pub Blanks : (γ : List Goal) → Opt (Forest γ) → Type 0
 Blanks γ none = Unit {0}
@@ -463,25 +433,19 @@ least (parts w) = ([], least_end w)
 least a_source = final least_expr
 least compared = (equal, least_expr)
 least arms_on = ends
-least returned = none
 least a_body = inside (single dummy)
 least a_target = to_int
 least dims = bare (records 0)
 least an_amode = records 0
-least maybe_mode = none
-least maybe_modes = none
 least the_fields = field int 0
 least fields_on = []
 least a_further = (alike 0, [])
-least maybe_fields = none
-least (given_on v) = none
 least (chain v) = value (least_initial v)
 least linked = uses (goes ([], tt)) []
 least a_value = constant 0
-least times_on = none
-least maybe_values = none
 least an_external = stores 0 (one nothing)
 least a_brick = store 0 (one nothing)
+least _ = none
 
 pub least_forest : (γ : List Goal) → Forest γ
 least_forest [] = tt

@@ -1,15 +1,14 @@
 -- Assignments are read back from their items, and expressions where another goal begins with them. Assumes nothing.
 use Rattle.std.proofs.Common.{◌≡◌, ℕ, false, List, [], ◌∷◌, refl, ap, ◌∙◌}
 use Rattle.grammar.specs.Symbols.{NAME, INTEGER, TEXT, LEFT, RIGHT, DOT, BECOMES}
-use Rattle.grammar.specs.Trees.{Token, token, symbol, key, Many, one, more, of_many, Monadic, positive, negative, absolute, complement, narrow, size, spell_monadic, Expr, Term, monadic, primary, integer, text, variable, call, call_on, paren, Variable, name, element, component, Exprs, of_expr, of_term, of_primary, of_variable, Destination, place, val, of_destination}
-use Rattle.grammar.specs.Machine.{close, folds, arrange, inner, start, right, plug, Source, final, onto, links, goes, assigned, finish, finish_closed, finish_named, inblock, value, uses, block_name, exprs, Goal, tok, rest, links_on, a_term, named, closed_on, parts, a_source, chain, linked, an_expr, a_statement, Tree, Forest, Move, shift, skip, refuse, mapped, at_links, no_parts, Seen, just_name, one_index, longer, var_of, seen, next_goal}
+use Rattle.grammar.specs.Trees.{Token, token, symbol, key, Many, one, more, of_many, Monadic, positive, spell_monadic, Expr, Term, monadic, primary, integer, text, variable, call, call_on, paren, Variable, name, element, component, Exprs, of_expr, of_term, of_primary, of_variable, Destination, place, val, of_destination}
+use Rattle.grammar.specs.Machine.{close, folds, arrange, inner, start, right, plug, Source, final, onto, links, goes, assigned, finish, finish_closed, finish_named, inblock, value, uses, block_name, exprs, Goal, tok, rest, links_on, a_term, named, closed_on, parts, a_source, chain, linked, an_expr, a_statement, Tree, Forest, Move, shift, mapped, at_links, no_parts, Seen, just_name, one_index, longer, var_of, seen, next_goal}
 use Rattle.grammar.proofs.Read.{read, Chains, off, like, chains}
 use Rattle.grammar.proofs.Expressions.{head, st, closed_st, Stays, Ends, on_not, heads, seen_var, result, end_inner, spine, term_read, variable_read, exprs_read, expr_read}
 
 mapped_twice : {A B C : Type 0} (f : B → C) (h : A → B) (m : Move A) → mapped f (mapped h m) ≡ mapped (λ a. f (h a)) m
 mapped_twice f h (shift push build) = refl
-mapped_twice f h (skip a) = refl
-mapped_twice f h refuse = refl
+mapped_twice f h _ = refl
 
 linked_chains : (v : List Token) → heads BECOMES v ≡ false → Chains linked (named inner) links_on uses v
 linked_chains [] h = refl
@@ -49,13 +48,11 @@ module _ {R : Type 0} where
   -- ':=' behind a form
   becomes_start : (s : Seen) (α : List Goal) (v : List Token) (k : Forest (a_statement ∷ α) → R) → read (next_goal s start ∷ α) (key BECOMES ∷ v) (λ g. k (result s start g.0, g.1)) ≡ read (a_source ∷ α) v (λ g. k (assigned (one (place (var_of s))) g.0, g.1))
   becomes_start (just_name n) α v k = refl
-  becomes_start (one_index n i e) α v k = refl
-  becomes_start (longer x) α v k = refl
+  becomes_start _ α v k = refl
 
   becomes_right : (s : Seen) (α : List Goal) (v : List Token) (k : Forest (a_source ∷ α) → R) → read (next_goal s right ∷ α) (key BECOMES ∷ v) (λ g. k (result s right g.0, g.1)) ≡ read (a_source ∷ α) v (λ g. k (onto (place (var_of s)) g.0, g.1))
   becomes_right (just_name n) α v k = refl
-  becomes_right (one_index n i e) α v k = refl
-  becomes_right (longer x) α v k = refl
+  becomes_right _ α v k = refl
 
   -- the end of a form behind ':='
   end_right : (s : Seen) (α : List Goal) (v : List Token) (k : Forest (a_source ∷ α) → R) → Stays v → read (next_goal s right ∷ α) v (λ g. k (result s right g.0, g.1)) ≡ read (links_on ∷ α) v (λ g. k (final (arrange (primary (variable (var_of s))) g.0), g.1))
@@ -79,11 +76,7 @@ module _ {R : Type 0} where
     where
       monad : (o : Monadic) (i : ℕ) (α : List Goal) (v : List Token) (k : Forest (a_source ∷ α) → R) → read (a_source ∷ α) (token (spell_monadic o) i ∷ v) k ≡ read (a_term ∷ links_on ∷ α) v (λ g. k (final (arrange (monadic o i g.0) g.1.0), g.1.1))
       monad positive i α v k = refl
-      monad negative i α v k = refl
-      monad absolute i α v k = refl
-      monad complement i α v k = refl
-      monad narrow i α v k = refl
-      monad size i α v k = refl
+      monad _ i α v k = refl
 
   pub chain_starts : Starts R (chain inblock) value
   chain_starts = record {
@@ -98,11 +91,7 @@ module _ {R : Type 0} where
     where
       monad : (o : Monadic) (i : ℕ) (α : List Goal) (v : List Token) (k : Forest (chain inblock ∷ α) → R) → read (chain inblock ∷ α) (token (spell_monadic o) i ∷ v) k ≡ read (a_term ∷ links_on ∷ α) v (λ g. k (value (arrange (monadic o i g.0) g.1.0), g.1.1))
       monad positive i α v k = refl
-      monad negative i α v k = refl
-      monad absolute i α v k = refl
-      monad complement i α v k = refl
-      monad narrow i α v k = refl
-      monad size i α v k = refl
+      monad _ i α v k = refl
 
   -- destinations
   valued_read : (x : Variable) (α : List Goal) (v : List Token) (k : Variable → Source → Forest α → R) → read (tok NAME ∷ parts start ∷ α) (of_variable x v) (λ g. k (plug (name g.0) g.1.0.0) g.1.0.1 g.1.1) ≡ read (parts start ∷ α) v (λ g. k (plug x g.0.0) g.0.1 g.1)

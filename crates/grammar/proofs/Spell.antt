@@ -192,11 +192,9 @@ of_target (to_record n) r = token NAME n ∷ r
 of_target (to_array d) r = key ARRAY ∷ of_dims d r
 
 pub refers_of : (t : Target) (r : List Token) → of_mode (refers t) r ≡ key REF ∷ of_target t r
-refers_of to_int r = refl
-refers_of (to_byte i) r = refl
-refers_of (to_record n) r = refl
 refers_of (to_array (bare m)) r = refl
 refers_of (to_array (brackets i m)) r = refl
+refers_of _ r = refl
 
 abbrev pub of_further : Further → List Token → List Token
 of_further (alike n) r = token NAME n ∷ r
@@ -267,25 +265,11 @@ of_more r (u ∷ us) x = key (separator r) ∷ of_single r u (of_more r us x)
 
 pub begun_of : (r : Repetition) (u : Single r) (x : List Token) → of_whole r (begun r u) x ≡ of_single r u x
 begun_of exprs u x = refl
-begun_of ors u x = refl
-begun_of ands u x = refl
-begun_of statements u x = refl
-begun_of modes u x = refl
-begun_of entries u x = refl
-begun_of moditems u x = refl
-begun_of (declareds s) u x = refl
-begun_of (decs s) u x = refl
+begun_of _ u x = refl
 
 pub added_of : (r : Repetition) (a : Whole r) (u : Single r) (x : List Token) → of_whole r (added r a u) x ≡ of_whole r a (key (separator r) ∷ of_single r u x)
 added_of exprs a u x = refl
-added_of ors a u x = refl
-added_of ands a u x = refl
-added_of statements a u x = refl
-added_of modes a u x = refl
-added_of entries a u x = refl
-added_of moditems a u x = refl
-added_of (declareds s) a u x = refl
-added_of (decs s) a u x = refl
+added_of _ a u x = refl
 
 pub adds_of : (r : Repetition) (a : Whole r) (us : List (Single r)) (x : List Token) → of_whole r (adds r a us) x ≡ of_whole r a (of_more r us x)
 adds_of r a [] x = refl

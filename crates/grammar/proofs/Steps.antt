@@ -79,10 +79,8 @@ skip_at d x α s i t u v m = like_at d (x ∷ α) α s i (may_skip x α t v) (sk
 
 -- a goal that moves as another does
 pub mapped_on : (x y : Goal) (f : Tree y → Tree x) (α : List Goal) (m : Move (Tree y)) (o : Opt (Left α)) → onto_stack (x ∷ α) (taken x α (mapped f m) o) ≡ onto_stack (y ∷ α) (taken y α m o)
-mapped_on x y f α (shift push build) o = refl
 mapped_on x y f α (skip t) none = refl
-mapped_on x y f α (skip t) (some l) = refl
-mapped_on x y f α refuse o = refl
+mapped_on x y f α _ _ = refl
 
 -- a goal that is one and then another
 followed_on : (x z y : Goal) (α : List Goal) (c : Symbol) (join : Tree z → Tree y → Tree x) (m : Move (Tree z)) → onto_stack (x ∷ α) (taken x α (followed m y (move y c) join) (step α c)) ≡ onto_stack (z ∷ y ∷ α) (taken z (y ∷ α) m (step (y ∷ α) c))
@@ -90,10 +88,8 @@ followed_on x z y α c join (shift push build) = refl
 followed_on x z y α c join (skip t) = by (move y c) (step α c)
   where
     by : (m : Move (Tree y)) (o : Opt (Left α)) → onto_stack (x ∷ α) (taken x α (mapped (join t) m) o) ≡ onto_stack (z ∷ y ∷ α) (taken z (y ∷ α) (skip t) (taken y α m o))
-    by (shift push build) o = refl
     by (skip u) none = refl
-    by (skip u) (some l) = refl
-    by refuse o = refl
+    by _ _ = refl
 followed_on x z y α c join refuse = refl
 
 pub followed_at : (d : ℕ) (x z y : Goal) (α : List Goal) (s : List Symbol) (i : ℕ) (join : Tree z → Tree y → Tree x) → may_end (x ∷ α) ≡ may_end (z ∷ y ∷ α) → move x (get_or s i STOP) ≡ followed (move z (get_or s i STOP)) y (move y (get_or s i STOP)) join → at d (x ∷ α) s i ≡ at d (z ∷ y ∷ α) s i

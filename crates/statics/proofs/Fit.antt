@@ -1,54 +1,42 @@
 -- Tests and options, and what fits. Assumes nothing.
-use Rattle.std.proofs.Common.{◌≡◌, ℕ, suc, ◌<◌, Bool, true, false, cond, ◌&&◌, ◌||◌, eqb, ltb, ◌⊎◌, [], ◌∷◌, Some, None, Option, sym, refl, ap, ◌∙◌, subst, inl, inr, arith}
-use Rattle.std.proofs.lemmas.Bool.Decides.{eqb_tells, leb_tells}
+use Rattle.std.proofs.Common.{◌≡◌, ℕ, Bool, true, false, cond, Some, None, Option, option_map, option_and_then, sym, refl, ap, ◌∙◌, subst, arith}
+use Rattle.std.specs.Bool.{Decides, then_some}
+use Rattle.std.proofs.lemmas.Bool.{true≢false}
+use Rattle.std.proofs.lemmas.Bool.Decides.{Decides-like, not_from_Decides}
+use Rattle.std.proofs.lemmas.Slice.Eq.{bytes_eq-Decides}
 use Rattle.statics.specs.Laws.{Pair}
-use Rattle.statics.specs.Scopes.{same_word}
 use Rattle.statics.specs.Modes.{Word, Plain, int, byte, Mode, plain, ref, ref_record, ref_array, Element, simple, records, Thing, value, place, array, structure, Offers, itself, referred, contents, contents_referred, address, array_address, record_address, Widens, alike, wider, Reference, Need, mode, number, reference, elements, components, scalar, pointed, Fits, widened, wanted, a_number, a_reference, an_array, a_record, a_place, a_pointer}
-use Rattle.statics.specs.JudgeExpressions.{provided, maybe, bind, same_plain, same_mode, same_element, plain_of, number_of, ref_of, widens, only_array, only_record, fit_ref, fit_mode, fit}
-use Rattle.statics.proofs.Decide.{Told, yes, no, Tells, found, none}
+use Rattle.statics.specs.JudgeExpressions.{same_plain, same_mode, same_element, number_of, ref_of, widens, only_array, only_record, fit_ref, fit_mode, fit}
+use Rattle.statics.proofs.Decide.{Tells, found, none}
 
-pub told_like : {P Q : Type 0} {b : Bool} → (P → Q) → (Q → P) → Told P b → Told Q b
-told_like f g (yes t) = yes (f t)
-told_like f g (no t) = no (λ q. t (g q))
+-- a test that passes, and one that fails
+pub yes : {P : Type 0} → P → Decides true P
+yes p = (λ e. p, λ q. refl)
 
-pub told_both : {P : Type 0} {b : Bool} → Told P b → (b ≡ true → P) × (P → b ≡ true)
-told_both (yes t) = (λ e. t, λ p. refl)
-told_both (no t) = (λ e. let z : ⊥ = grind arith in absurd z, λ p. absurd (t p))
-
-pub told_and : {P Q : Type 0} {b c : Bool} → Told P b → Told Q c → Told (P × Q) (b && c)
-told_and (yes s) (yes t) = yes (s, t)
-told_and (yes s) (no t) = no (λ x. t x.1)
-told_and (no s) t = no (λ x. s x.0)
-
-pub told_or : {P Q : Type 0} {b c : Bool} → Told P b → Told Q c → Told (P ⊎ Q) (b || c)
-told_or (yes s) t = yes (inl s)
-told_or (no s) (yes t) = yes (inr t)
-told_or (no s) (no t) = no (λ x. elim x [ inl y ↦ s y | inr y ↦ t y ])
-
-pub eqb_told : (a b : ℕ) → Told (a ≡ b) (eqb a b)
-eqb_told a b = elim (eqb_tells a b) [ inl x ↦ rw x.0 (yes x.1) | inr x ↦ rw x.0 (no x.1) ]
-
-pub ltb_told : (a b : ℕ) → Told (a < b) (ltb a b)
-ltb_told a b = elim (leb_tells (suc a) b) [ inl x ↦ rw x.0 (yes (omega arith)) | inr x ↦ rw x.0 (no (λ h. omega arith)) ]
+pub no : {P : Type 0} → ¬ P → Decides false P
+no n = (λ e. absurd (true≢false (sym e)), λ p. absurd (n p))
 
 pub tells_like : {A : Type 0} {H : A → Type 0} {o : Option A} (K : A → Type 0) → ((a : A) → H a → K a) → ((a : A) → K a → H a) → Tells H o → Tells K o
 tells_like K f g (none t) = none (λ a k. t a (g a k))
 tells_like K f g (found t one) = found (f _ t) (λ b k. one b (g b k))
 
-pub tells_if : {A : Type 0} {P : Type 0} {b : Bool} (a : A) → Told P b → Tells (λ c. P × (c ≡ a)) (provided b a)
-tells_if a (yes t) = found (t, refl) (λ b x. x.1)
-tells_if a (no t) = none (λ b x. t x.0)
+pub tells_if : {A : Type 0} {P : Type 0} (b : Bool) (a : A) → Decides b P → Tells (λ c. P × (c ≡ a)) (then_some b a)
+tells_if true a d = found (d.0 refl, refl) (λ b x. x.1)
+tells_if false a d = none (λ b x. not_from_Decides false d refl x.0)
 
-pub tells_cond : {A : Type 0} {P : Type 0} {K : A → Type 0} {b : Bool} {o : Option A} → Told P b → Tells K o → Tells (λ c. P × K c) (cond b o None)
-tells_cond (yes t) (none k) = none (λ a x. k a x.1)
-tells_cond (yes t) (found k one) = found (t, k) (λ b x. one b x.1)
-tells_cond (no t) k = none (λ a x. t x.0)
+pub tells_unit : {P : Type 0} (b : Bool) → Decides b P → Tells (λ (u : Unit {0}). P) (then_some b tt)
+tells_unit b d = tells_like _ (λ u x. x.0) (λ u p. (p, refl)) (tells_if b tt d)
 
-pub tells_maybe : {A B : Type 0} {H : A → Type 0} {o : Option A} (f : A → B) → Tells H o → Tells (λ b. (a : A) × H a × (b ≡ f a)) (maybe f o)
+pub tells_cond : {A : Type 0} {P : Type 0} {K : A → Type 0} (b : Bool) {o : Option A} → Decides b P → Tells K o → Tells (λ c. P × K c) (cond b o None)
+tells_cond true d (none k) = none (λ a x. k a x.1)
+tells_cond true d (found k one) = found (d.0 refl, k) (λ b x. one b x.1)
+tells_cond false d k = none (λ a x. not_from_Decides false d refl x.0)
+
+pub tells_maybe : {A B : Type 0} {H : A → Type 0} {o : Option A} (f : A → B) → Tells H o → Tells (λ b. (a : A) × H a × (b ≡ f a)) (option_map f o)
 tells_maybe f (none t) = none (λ b x. t x.0 x.1)
 tells_maybe f (found {a} t one) = found (a, t, refl) (λ b x. rw (← (one x.0 x.1)) x.2)
 
-pub tells_bind : {A B : Type 0} {H : A → Type 0} {o : Option A} (K : A → B → Type 0) (f : A → Option B) → Tells H o → ((a : A) → Tells (K a) (f a)) → Tells (Pair H K) (bind o f)
+pub tells_bind : {A B : Type 0} {H : A → Type 0} {o : Option A} (K : A → B → Type 0) (f : A → Option B) → Tells H o → ((a : A) → Tells (K a) (f a)) → Tells (Pair H K) (option_and_then f o)
 tells_bind K f (none t) g = none (λ b x. t x.0 x.1)
 tells_bind {A} {B} {H} K f (found {a} t one) g = go (g a)
   where
@@ -56,42 +44,23 @@ tells_bind {A} {B} {H} K f (found {a} t one) g = go (g a)
     go (none k) = none (λ b x. k b (subst (λ y. K y b) (one x.0 x.1) x.2))
     go (found k only) = found (a, t, k) (λ b x. only b (subst (λ y. K y b) (one x.0 x.1) x.2))
 
-pub same_word_told : (v w : Word) → Told (v ≡ w) (same_word v w)
-same_word_told [] [] = yes refl
-same_word_told [] (b ∷ w) = no (λ e. grind arith)
-same_word_told (a ∷ v) [] = no (λ e. grind arith)
-same_word_told (a ∷ v) (b ∷ w) = told_like (λ x. rw (x.0, x.1) refl) (λ e. (cc, cc)) (told_and (eqb_told a b) (same_word_told v w))
-
-pub same_plain_told : (k l : Plain) → Told (k ≡ l) (same_plain k l)
-same_plain_told int int = yes refl
-same_plain_told int byte = no (λ e. grind arith)
-same_plain_told byte int = no (λ e. grind arith)
-same_plain_told byte byte = yes refl
+pub same_plain_decides : (k l : Plain) → Decides (same_plain k l) (k ≡ l)
+same_plain_decides int int = yes refl
+same_plain_decides byte byte = yes refl
+same_plain_decides _ _ = no (λ e. grind arith)
 
 mutual
-  pub same_mode_told : (m k : Mode) → Told (m ≡ k) (same_mode m k)
-  same_mode_told (plain k) (plain l) = told_like (λ e. ap plain e) (λ e. cc) (same_plain_told k l)
-  same_mode_told (plain k) (ref l) = no (λ e. grind arith)
-  same_mode_told (plain k) (ref_record r) = no (λ e. grind arith)
-  same_mode_told (plain k) (ref_array f) = no (λ e. grind arith)
-  same_mode_told (ref k) (plain l) = no (λ e. grind arith)
-  same_mode_told (ref k) (ref l) = told_like (λ e. ap ref e) (λ e. cc) (same_plain_told k l)
-  same_mode_told (ref k) (ref_record r) = no (λ e. grind arith)
-  same_mode_told (ref k) (ref_array f) = no (λ e. grind arith)
-  same_mode_told (ref_record r) (plain l) = no (λ e. grind arith)
-  same_mode_told (ref_record r) (ref l) = no (λ e. grind arith)
-  same_mode_told (ref_record r) (ref_record s) = told_like (λ e. ap ref_record e) (λ e. cc) (same_word_told r s)
-  same_mode_told (ref_record r) (ref_array f) = no (λ e. grind arith)
-  same_mode_told (ref_array d) (plain l) = no (λ e. grind arith)
-  same_mode_told (ref_array d) (ref l) = no (λ e. grind arith)
-  same_mode_told (ref_array d) (ref_record s) = no (λ e. grind arith)
-  same_mode_told (ref_array d) (ref_array f) = told_like (λ e. ap ref_array e) (λ e. cc) (same_element_told d f)
+  pub same_mode_decides : (m k : Mode) → Decides (same_mode m k) (m ≡ k)
+  same_mode_decides (plain k) (plain l) = Decides-like _ (λ e. ap plain e) (λ e. cc) (same_plain_decides k l)
+  same_mode_decides (ref k) (ref l) = Decides-like _ (λ e. ap ref e) (λ e. cc) (same_plain_decides k l)
+  same_mode_decides (ref_record r) (ref_record s) = Decides-like _ (λ e. ap ref_record e) (λ e. cc) (bytes_eq-Decides r s)
+  same_mode_decides (ref_array d) (ref_array f) = Decides-like _ (λ e. ap ref_array e) (λ e. cc) (same_element_decides d f)
+  same_mode_decides m k = no (λ e. grind arith)
 
-  pub same_element_told : (d f : Element) → Told (d ≡ f) (same_element d f)
-  same_element_told (simple m) (simple k) = told_like (λ e. ap simple e) (λ e. cc) (same_mode_told m k)
-  same_element_told (simple m) (records r) = no (λ e. grind arith)
-  same_element_told (records r) (simple k) = no (λ e. grind arith)
-  same_element_told (records r) (records s) = told_like (λ e. ap records e) (λ e. cc) (same_word_told r s)
+  pub same_element_decides : (d f : Element) → Decides (same_element d f) (d ≡ f)
+  same_element_decides (simple m) (simple k) = Decides-like _ (λ e. ap simple e) (λ e. cc) (same_mode_decides m k)
+  same_element_decides (records r) (records s) = Decides-like _ (λ e. ap records e) (λ e. cc) (bytes_eq-Decides r s)
+  same_element_decides d f = no (λ e. grind arith)
 
 -- the plain mode offered, and the reference offered
 abbrev Numeric : Thing → Plain → Type 0
@@ -100,98 +69,59 @@ Numeric t k = (n : ℕ) × Offers t (plain k) n
 abbrev Refers : Thing → Mode → Type 0
 Refers t m = (n : ℕ) × Offers t m n × Reference m
 
-some_one : {A : Type 0} {a b : A} {o : Option A} → o ≡ Some a → o ≡ Some b → b ≡ a
-some_one p q = cc
-
-some_none : {A : Type 0} {a : A} {o : Option A} → o ≡ Some a → o ≡ None → ⊥
-some_none p q = grind arith
-
 -- the plain mode that something offers is the one that number_of finds
 number_only : {t : Thing} {m : Mode} {n : ℕ} → Offers t m n → (k : Plain) → m ≡ plain k → number_of t ≡ Some k
-number_only itself k e = ap plain_of e
-number_only referred k e = ap plain_of e
-number_only contents k e = ap plain_of e
-number_only contents_referred k e = ap plain_of e
-number_only address k e = absurd (let z : ⊥ = grind arith in z)
-number_only array_address k e = absurd (let z : ⊥ = grind arith in z)
-number_only record_address k e = absurd (let z : ⊥ = grind arith in z)
+number_only o k e = grind arith
+
+one_number : {t : Thing} {l : Plain} → number_of t ≡ Some l → (k : Plain) → Numeric t k → k ≡ l
+one_number e k x = let y = number_only x.1 k refl in cc
+
+no_number : {t : Thing} → number_of t ≡ None → (k : Plain) → Numeric t k → ⊥
+no_number e k x = let y = number_only x.1 k refl in grind arith
 
 number_tells : (t : Thing) → Tells (Numeric t) (number_of t)
-number_tells t = go t (number_of t) refl
-  where
-    back : (t : Thing) (k : Plain) → number_of t ≡ Some k → Numeric t k
-    back (value (plain l)) k e = subst (Numeric (value (plain l))) (some_one e refl) (0, itself)
-    back (value (ref l)) k e = subst (Numeric (value (ref l))) (some_one e refl) (1, referred)
-    back (value (ref_record r)) k e = absurd (some_none e refl)
-    back (value (ref_array d)) k e = absurd (some_none e refl)
-    back (place b (plain l)) k e = subst (Numeric (place b (plain l))) (some_one e refl) (1, contents)
-    back (place b (ref l)) k e = subst (Numeric (place b (ref l))) (some_one e refl) (2, contents_referred)
-    back (place b (ref_record r)) k e = absurd (some_none e refl)
-    back (place b (ref_array d)) k e = absurd (some_none e refl)
-    back (array d) k e = absurd (some_none e refl)
-    back (structure r) k e = absurd (some_none e refl)
-
-    go : (t : Thing) (o : Option Plain) → number_of t ≡ o → Tells (Numeric t) o
-    go t None e = none (λ k x. some_none (number_only x.1 k refl) e)
-    go t (Some k) e = found (back t k e) (λ l x. some_one e (number_only x.1 l refl))
+number_tells (value (plain l)) = found (0, itself) (one_number refl)
+number_tells (value (ref l)) = found (1, referred) (one_number refl)
+number_tells (place b (plain l)) = found (1, contents) (one_number refl)
+number_tells (place b (ref l)) = found (2, contents_referred) (one_number refl)
+number_tells _ = none (no_number refl)
 
 -- the reference that something offers is the one that ref_of finds
 ref_only : {t : Thing} {m : Mode} {n : ℕ} → Offers t m n → Reference m → ref_of t ≡ Some m
-ref_only (itself {m = plain k}) r = absurd r
-ref_only (itself {m = ref k}) r = refl
-ref_only (itself {m = ref_record w}) r = refl
-ref_only (itself {m = ref_array e}) r = refl
-ref_only referred r = absurd r
-ref_only (contents {b = b} {m = plain k}) r = absurd r
-ref_only (contents {b = b} {m = ref k}) r = refl
-ref_only (contents {b = b} {m = ref_record w}) r = refl
-ref_only (contents {b = b} {m = ref_array e}) r = refl
-ref_only contents_referred r = absurd r
-ref_only address r = refl
-ref_only array_address r = refl
-ref_only record_address r = refl
+ref_only o r = grind arith
+
+one_ref : {t : Thing} {m : Mode} → ref_of t ≡ Some m → (k : Mode) → Refers t k → k ≡ m
+one_ref e k x = let y = ref_only x.1 x.2 in cc
+
+no_ref : {t : Thing} → ref_of t ≡ None → (k : Mode) → Refers t k → ⊥
+no_ref e k x = let y = ref_only x.1 x.2 in grind arith
 
 ref_tells : (t : Thing) → Tells (Refers t) (ref_of t)
-ref_tells t = go t (ref_of t) refl
-  where
-    back : (t : Thing) (m : Mode) → ref_of t ≡ Some m → Refers t m
-    back (value (plain k)) m e = absurd (some_none e refl)
-    back (value (ref k)) m e = subst (Refers (value (ref k))) (some_one e refl) (0, itself, tt)
-    back (value (ref_record r)) m e = subst (Refers (value (ref_record r))) (some_one e refl) (0, itself, tt)
-    back (value (ref_array d)) m e = subst (Refers (value (ref_array d))) (some_one e refl) (0, itself, tt)
-    back (place true (plain k)) m e = subst (Refers (place true (plain k))) (some_one e refl) (0, address, tt)
-    back (place false (plain k)) m e = absurd (some_none e refl)
-    back (place b (ref k)) m e = subst (Refers (place b (ref k))) (some_one e refl) (1, contents, tt)
-    back (place b (ref_record r)) m e = subst (Refers (place b (ref_record r))) (some_one e refl) (1, contents, tt)
-    back (place b (ref_array d)) m e = subst (Refers (place b (ref_array d))) (some_one e refl) (1, contents, tt)
-    back (array d) m e = subst (Refers (array d)) (some_one e refl) (0, array_address, tt)
-    back (structure r) m e = subst (Refers (structure r)) (some_one e refl) (0, record_address, tt)
+ref_tells (value (plain k)) = none (no_ref refl)
+ref_tells (value m) = found (0, itself, tt) (one_ref refl)
+ref_tells (place true (plain k)) = found (0, address, tt) (one_ref refl)
+ref_tells (place false (plain k)) = none (no_ref refl)
+ref_tells (place b m) = found (1, contents, tt) (one_ref refl)
+ref_tells (array d) = found (0, array_address, tt) (one_ref refl)
+ref_tells (structure r) = found (0, record_address, tt) (one_ref refl)
 
-    go : (t : Thing) (o : Option Mode) → ref_of t ≡ o → Tells (Refers t) o
-    go t None e = none (λ m x. some_none (ref_only x.1 x.2) e)
-    go t (Some m) e = found (back t m e) (λ k x. some_one e (ref_only x.1 x.2))
-
-widens_told : (k l : Plain) → Told (Widens k l) (widens k l)
-widens_told int int = yes alike
-widens_told int byte = no (λ w. elim w [ ])
-widens_told byte int = yes wider
-widens_told byte byte = yes alike
+widens_decides : (k l : Plain) → Decides (widens k l) (Widens k l)
+widens_decides int int = yes alike
+widens_decides int byte = no (λ w. elim w [ ])
+widens_decides byte int = yes wider
+widens_decides byte byte = yes alike
 
 wanted_back : {m c : Mode} {t : Thing} → Fits (mode m) t c → Reference m → Pair (Refers t) (λ k c. (k ≡ m) × (c ≡ m)) c
-wanted_back (widened o w) r = absurd r
-wanted_back (wanted {m = m} {n = n} o k) r = (m, (n, o, k), (refl, refl))
+wanted_back f r = grind arith
 
 fit_ref_tells : (m : Mode) (t : Thing) → Reference m → Tells (Fits (mode m) t) (fit_ref m t)
-fit_ref_tells m t r = tells_like _ to back (tells_bind (λ k c. (k ≡ m) × (c ≡ m)) _ (ref_tells t) (λ k. tells_if m (same_mode_told k m)))
+fit_ref_tells m t r = tells_like _ to (λ c f. wanted_back f r) (tells_bind (λ k c. (k ≡ m) × (c ≡ m)) _ (ref_tells t) (λ k. tells_if _ m (same_mode_decides k m)))
   where
     to : (c : Mode) → Pair (Refers t) (λ k c. (k ≡ m) × (c ≡ m)) c → Fits (mode m) t c
     to c x = rw x.2.1 (wanted (rw x.2.0 at x.1.1) r)
 
-    back : (c : Mode) → Fits (mode m) t c → Pair (Refers t) (λ k c. (k ≡ m) × (c ≡ m)) c
-    back c f = wanted_back f r
-
 mode_tells : (m : Mode) (t : Thing) → Tells (Fits (mode m) t) (fit_mode m t)
-mode_tells (plain l) t = tells_like _ to back (tells_bind (λ k c. Widens k l × (c ≡ plain l)) _ (number_tells t) (λ k. tells_if (plain l) (widens_told k l)))
+mode_tells (plain l) t = tells_like _ to back (tells_bind (λ k c. Widens k l × (c ≡ plain l)) _ (number_tells t) (λ k. tells_if _ (plain l) (widens_decides k l)))
   where
     to : (c : Mode) → Pair (Numeric t) (λ k c. Widens k l × (c ≡ plain l)) c → Fits (mode (plain l)) t c
     to c x = rw x.2.1 (widened x.1.1 x.2.0)
@@ -199,9 +129,7 @@ mode_tells (plain l) t = tells_like _ to back (tells_bind (λ k c. Widens k l ×
     back : (c : Mode) → Fits (mode (plain l)) t c → Pair (Numeric t) (λ k c. Widens k l × (c ≡ plain l)) c
     back c (widened {k = k} {n = n} o w) = (k, (n, o), (w, refl))
     back c (wanted o r) = absurd r
-mode_tells (ref k) t = fit_ref_tells (ref k) t tt
-mode_tells (ref_record r) t = fit_ref_tells (ref_record r) t tt
-mode_tells (ref_array e) t = fit_ref_tells (ref_array e) t tt
+mode_tells m t = fit_ref_tells m t tt
 
 -- of the references, those to arrays, and those to records
 abbrev ArrayRef : Mode → Mode → Type 0
@@ -211,16 +139,12 @@ abbrev RecordRef : Mode → Mode → Type 0
 RecordRef m c = (r : Word) × (m ≡ ref_record r) × (c ≡ ref_record r)
 
 only_array_tells : (m : Mode) → Tells (ArrayRef m) (only_array m)
-only_array_tells (plain k) = none (λ c x. let e = x.1 in grind arith)
-only_array_tells (ref k) = none (λ c x. let e = x.1 in grind arith)
-only_array_tells (ref_record r) = none (λ c x. let e = x.1 in grind arith)
 only_array_tells (ref_array e) = found (e, refl, refl) (λ c x. x.2 ∙ sym x.1)
+only_array_tells _ = none (λ c x. let e = x.1 in grind arith)
 
 only_record_tells : (m : Mode) → Tells (RecordRef m) (only_record m)
-only_record_tells (plain k) = none (λ c x. let e = x.1 in grind arith)
-only_record_tells (ref k) = none (λ c x. let e = x.1 in grind arith)
 only_record_tells (ref_record r) = found (r, refl, refl) (λ c x. x.2 ∙ sym x.1)
-only_record_tells (ref_array e) = none (λ c x. let e = x.1 in grind arith)
+only_record_tells _ = none (λ c x. let e = x.1 in grind arith)
 
 place_one : {b : Bool} {m c : Mode} → Fits scalar (place b m) c → c ≡ m
 place_one a_place = refl
@@ -258,60 +182,7 @@ fit_tells components t = tells_like _ to back (tells_bind RecordRef only_record 
 
     back : (c : Mode) → Fits components t c → Pair (Refers t) RecordRef c
     back c (a_record {r = r} {n = n} o) = (ref_record r, (n, o, tt), (r, refl, refl))
-fit_tells scalar (value m) = none (λ c f. elim f [ ])
 fit_tells scalar (place b m) = found a_place (λ c f. place_one f)
-fit_tells scalar (array e) = none (λ c f. elim f [ ])
-fit_tells scalar (structure r) = none (λ c f. elim f [ ])
-fit_tells pointed (value m) = none (λ c f. elim f [ ])
-fit_tells pointed (place b (plain k)) = none (λ c f. elim f [ ])
 fit_tells pointed (place b (ref k)) = found a_pointer (λ c f. pointer_one f)
-fit_tells pointed (place b (ref_record r)) = none (λ c f. elim f [ ])
-fit_tells pointed (place b (ref_array e)) = none (λ c f. elim f [ ])
-fit_tells pointed (array e) = none (λ c f. elim f [ ])
-fit_tells pointed (structure r) = none (λ c f. elim f [ ])
-
--- the number of reads
-abbrev value_reads : Mode → Mode → ℕ
-value_reads (plain k) m = 0
-value_reads (ref k) (plain l) = 1
-value_reads (ref k) (ref l) = 0
-value_reads (ref k) (ref_record r) = 0
-value_reads (ref k) (ref_array e) = 0
-value_reads (ref_record r) m = 0
-value_reads (ref_array e) m = 0
-
-abbrev place_reads : Mode → Mode → ℕ
-place_reads (plain k) (plain l) = 1
-place_reads (plain k) (ref l) = 0
-place_reads (plain k) (ref_record r) = 0
-place_reads (plain k) (ref_array e) = 0
-place_reads (ref k) (plain l) = 2
-place_reads (ref k) (ref l) = 1
-place_reads (ref k) (ref_record r) = 1
-place_reads (ref k) (ref_array e) = 1
-place_reads (ref_record r) m = 1
-place_reads (ref_array e) m = 1
-
-abbrev reads : Thing → Mode → ℕ
-reads (value m) k = value_reads m k
-reads (place b m) k = place_reads m k
-reads (array e) k = 0
-reads (structure r) k = 0
-
-reads_is : {t : Thing} {m : Mode} {n : ℕ} → Offers t m n → n ≡ reads t m
-reads_is (itself {m = plain k}) = refl
-reads_is (itself {m = ref k}) = refl
-reads_is (itself {m = ref_record w}) = refl
-reads_is (itself {m = ref_array e}) = refl
-reads_is referred = refl
-reads_is (contents {b = b} {m = plain k}) = refl
-reads_is (contents {b = b} {m = ref k}) = refl
-reads_is (contents {b = b} {m = ref_record w}) = refl
-reads_is (contents {b = b} {m = ref_array e}) = refl
-reads_is contents_referred = refl
-reads_is address = refl
-reads_is array_address = refl
-reads_is record_address = refl
-
-pub one_reading_lem : {t : Thing} {m : Mode} {k l : ℕ} → Offers t m k → Offers t m l → k ≡ l
-one_reading_lem a b = reads_is a ∙ sym (reads_is b)
+fit_tells scalar _ = none (λ c f. elim f [ ])
+fit_tells pointed _ = none (λ c f. elim f [ ])

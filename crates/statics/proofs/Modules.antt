@@ -1,71 +1,69 @@
 -- Initial values and module items are judged right. Assumes nothing.
-use Rattle.std.proofs.Common.{◌≡◌, ℕ, ◌+◌, ◌<◌, ◌≤◌, Bool, true, false, ◌&&◌, List, [], ◌∷◌, length, Some, None, codes, Option, Result, refl, ap, arith}
+use Rattle.std.proofs.Common.{◌≡◌, ℕ, ◌+◌, ◌<◌, Bool, true, false, ◌&&◌, List, [], ◌∷◌, length, Some, None, codes, Option, Result, refl, ap, arith}
+use Rattle.std.specs.Option.{option_eq}
+use Rattle.std.specs.Cmp.Lexicographic.{pointwise}
+use Rattle.std.specs.List.{list_all}
+use Rattle.std.specs.Bool.{Decides}
+use Rattle.std.proofs.lemmas.Bool.Decides.{Decides-like, Decides-and, Decides-or, Decides-eqb, Decides-ltb}
+use Rattle.std.proofs.lemmas.Slice.Eq.{bytes_eq-Decides, slice_eq-Decides}
 use Rattle.statics.specs.declared.Refusal.{Refusal}
+use Rattle.statics.specs.Refusals.{place_of}
+use Rattle.statics.specs.declared.Refusal.TheVariants.{WrongName, Misfit, NoValue}
 use Rattle.grammar.specs.Trees.{Value, constant, signed, minus_signed, identifier, string, empty_list, list, Values, only, and, Entry, once, repeated, Many, one, more, Opt, Fields, also, Init, given, Dec, variables, arrays, structures, Body, Brick, store, procedure, Moditem, blank, external_procs, external_store, own, entry, Module}
 use Rattle.grammar.specs.Trees as tree
-use Rattle.statics.specs.Modes.{Word, int, byte, Mode, plain, ref, ref_record, ref_array, Element, simple, records, INT, BYTE, Thing}
-use Rattle.statics.specs.Laws.{Wrongs, Lacks}
+use Rattle.statics.specs.Modes.{Word, int, byte, Mode, plain, ref_array, Element, simple, records, INT, BYTE, Thing}
+use Rattle.statics.specs.Laws.{Wrongs}
 use Rattle.statics.specs.Scopes.{Text, Env, Keeps, Signature, record_modes}
 use Rattle.statics.specs.Expressions.{each}
-use Rattle.statics.specs.Written.{mode_of, element_of}
-use Rattle.statics.specs.Statements.{Starts}
+use Rattle.statics.specs.Written.{mode_of, element_of, written}
 use Rattle.statics.specs.Values.{Want, free, simply, several, recorded, inner, TakesInteger, address_mode, TakesName, TakesString, TakesList, Repeats, total, how_many, front_value, ThenAsk, initial, listed, an_entry, AllStart, ElementStarts, Valueless}
-use Rattle.statics.specs.Modules.{maybe_mode, modes, maybe_written, modes_written, fields_written, parameters_written, Admitted, data_item, data_dec, in_record, in_procedure, outermost, a_brick, moditem, module_env, module_wrongs}
+use Rattle.statics.specs.Modules.{maybe_mode, modes, optional, fields_written, Admitted, data_item, data_dec, in_record, in_procedure, outermost, a_brick, moditem, module_env, module_wrongs}
 use Rattle.statics.specs.Order.{Span, InMany, InMode, InName, InInit, InValue, InValues, InEntry, InDec, InOpt, InFields, InBrick, InModitem, InModule}
-use Rattle.statics.specs.JudgeExpressions.{then, must, keeps, judge_each}
-use Rattle.statics.specs.JudgeStatements.{judge_written}
-use Rattle.statics.specs.JudgeModules.{holds, takes_integer, is_mode, takes_name, takes_string, takes_list, repeats, judge_value, judge_values, judge_entry, is_plain, all_plain, element_starts, valueless, judge_opt, judge_fields, no_modes, one_byte, no_mode, admitted, judge_data_item, judge_data_dec, judge_brick, judge_moditem, judge_module}
-use Rattle.statics.proofs.Decide.{Told, yes, no, lacking, wider, chain, likewise, next, nothing}
-use Rattle.statics.proofs.Fit.{told_like, told_and, told_or, eqb_told, ltb_told, same_word_told, same_mode_told, same_element_told}
+use Rattle.statics.specs.JudgeExpressions.{then, check, keeps, same_mode, judge_each}
+use Rattle.statics.specs.JudgeStatements.{judge_written, is_plain}
+use Rattle.statics.specs.JudgeModules.{takes_integer, takes_name, takes_string, takes_list, repeats, judge_value, judge_values, judge_entry, element_starts, valueless, judge_opt, judge_fields, admitted, judge_data_item, judge_data_dec, judge_brick, judge_moditem, judge_module}
+use Rattle.statics.proofs.Decide.{lacking, cleaned, wider, chain, next, nothing}
+use Rattle.statics.proofs.Fit.{yes, no, tells_unit, same_mode_decides, same_element_decides}
 use Rattle.statics.proofs.Names.{look_judged, keeps_tells}
-use Rattle.statics.proofs.Expressions.{Checks, unit_tells, each_right, many_le}
-use Rattle.statics.proofs.Statements.{asked, refusing, mode_le, element_le, name_le, init_le, body_le, written_right, element_right, record_name_right, body_right}
+use Rattle.statics.proofs.Expressions.{Checks, each_right, many_le}
+use Rattle.statics.proofs.Statements.{tested, starts_decides, refusing, name_le, written_right, element_right, record_name_right, body_right}
 
--- a test, and the number k at q where it fails
-tested : {P : Type 0} {b : Bool} (lo hi k q : ℕ) → Span lo hi q → Told P b → Checks lo hi (Lacks (λ (u : Unit {0}). P) k q) (must k q (holds b))
-tested lo hi k q i t = asked lo hi k q _ _ i (unit_tells t)
+-- the same, if all before it is right
+then_tested : {P : Type 0} {b : Bool} {W : Wrongs} {r : Result (Unit {0}) Refusal} (lo hi : ℕ) (f : Refusal) → Span lo hi (place_of f) → Checks lo hi W r → Decides b P → Checks lo hi (ThenAsk W (λ u. P) f) (then r (λ u. check b f))
+then_tested {P} lo hi f i c t = cleaned (chain (λ u v. P) _ _ c (λ u h. lacking lo hi f i (tells_unit _ t)))
 
-then_tested : {P : Type 0} {b : Bool} {W : Wrongs} {r : Result (Unit {0}) Refusal} (lo hi k q : ℕ) → Span lo hi q → Checks lo hi W r → Told P b → Checks lo hi (ThenAsk W (λ u. P) k q) (then r (λ u. must k q (holds b)))
-then_tested {P} lo hi k q i c t = likewise _ (λ n p w. w) (λ n p w. w) (chain (λ u v. P) _ _ c (λ u h. lacking lo hi k q i (unit_tells t)))
+integer_decides : (w : Want) (s : Bool) (v : ℕ) → Decides (takes_integer w s v) (TakesInteger w s v tt)
+integer_decides free s v = yes tt
+integer_decides (simply (plain int)) s v = yes tt
+integer_decides (simply (plain byte)) true v = no (λ x. let e = x.0 in grind arith)
+integer_decides (simply (plain byte)) false v = Decides-like _ (λ h. (refl, h)) (λ x. x.1) (Decides-ltb v 256)
+integer_decides _ s v = no (λ x. x)
 
-integer_told : (w : Want) (s : Bool) (v : ℕ) → Told (TakesInteger w s v tt) (takes_integer w s v)
-integer_told free s v = yes tt
-integer_told (simply (plain int)) s v = yes tt
-integer_told (simply (plain byte)) true v = no (λ x. let e = x.0 in grind arith)
-integer_told (simply (plain byte)) false v = told_like (λ h. (refl, h)) (λ x. x.1) (ltb_told v 256)
-integer_told (simply (ref k)) s v = no (λ x. x)
-integer_told (simply (ref_record r)) s v = no (λ x. x)
-integer_told (simply (ref_array e)) s v = no (λ x. x)
-integer_told (several n e) s v = no (λ x. x)
-integer_told (recorded r) s v = no (λ x. x)
+maybe_mode_decides : (o p : Option Mode) → Decides (option_eq same_mode o p) (o ≡ p)
+maybe_mode_decides None None = yes refl
+maybe_mode_decides (Some k) (Some m) = Decides-like _ (λ e. ap Some e) (λ e. cc) (same_mode_decides k m)
+maybe_mode_decides _ _ = no (λ e. grind arith)
 
-is_mode_told : (o : Option Mode) (m : Mode) → Told (o ≡ Some m) (is_mode o m)
-is_mode_told None m = no (λ e. grind arith)
-is_mode_told (Some k) m = told_like (λ e. ap Some e) (λ e. cc) (same_mode_told k m)
+name_decides : (w : Want) (t : Thing) → Decides (takes_name w t) (TakesName w t tt)
+name_decides free t = yes tt
+name_decides (simply m) t = maybe_mode_decides (address_mode t) (Some m)
+name_decides _ t = no (λ x. x)
 
-name_told : (w : Want) (t : Thing) → Told (TakesName w t tt) (takes_name w t)
-name_told free t = yes tt
-name_told (simply m) t = is_mode_told (address_mode t) m
-name_told (several n e) t = no (λ x. x)
-name_told (recorded r) t = no (λ x. x)
+string_decides : (w : Want) (k : ℕ) → Decides (takes_string w k) (TakesString w k tt)
+string_decides free k = yes tt
+string_decides (simply m) k = same_mode_decides m (ref_array (simple BYTE))
+string_decides (several n e) k = Decides-and _ _ (same_element_decides e (simple BYTE)) (Decides-eqb n k)
+string_decides (recorded r) k = no (λ x. x)
 
-string_told : (w : Want) (k : ℕ) → Told (TakesString w k tt) (takes_string w k)
-string_told free k = yes tt
-string_told (simply m) k = same_mode_told m (ref_array (simple BYTE))
-string_told (several n e) k = told_and (same_element_told e (simple BYTE)) (eqb_told n k)
-string_told (recorded r) k = no (λ x. x)
+list_decides : (Γ : Env) (w : Want) (k n : ℕ) → Decides (takes_list Γ w k n) (TakesList Γ w k n tt)
+list_decides Γ free k n = yes tt
+list_decides Γ (simply m) k n = no (λ x. x)
+list_decides Γ (several l e) k n = Decides-eqb n l
+list_decides Γ (recorded r) k n = Decides-eqb k (length (record_modes Γ.parts r))
 
-list_told : (Γ : Env) (w : Want) (k n : ℕ) → Told (TakesList Γ w k n tt) (takes_list Γ w k n)
-list_told Γ free k n = yes tt
-list_told Γ (simply m) k n = no (λ x. x)
-list_told Γ (several l e) k n = eqb_told n l
-list_told Γ (recorded r) k n = eqb_told k (length (record_modes Γ.parts r))
-
-repeats_told : (w : Want) → Told (Repeats w tt) (repeats w)
-repeats_told free = yes tt
-repeats_told (simply m) = yes tt
-repeats_told (several n e) = yes tt
-repeats_told (recorded r) = no (λ x. x)
+repeats_decides : (w : Want) → Decides (repeats w) (Repeats w tt)
+repeats_decides (recorded r) = no (λ x. x)
+repeats_decides _ = yes tt
 
 mutual
   value_in : (v : Value) (lo hi : ℕ) → InValue lo v hi → Span lo hi (front_value v)
@@ -88,186 +86,108 @@ mutual
   entry_le (once v) lo hi i = let f = value_in v lo hi i in omega arith
   entry_le (repeated v k n) lo hi i = let f = value_in v lo hi i in omega arith
 
-value_le : (v : Value) (lo hi : ℕ) → InValue lo v hi → lo ≤ hi
-value_le v lo hi i = let f = value_in v lo hi i in omega arith
-
 mutual
   pub value_right : (v : Value) (Γ : Env) (w : Want) (lo hi : ℕ) → InValue lo v hi → Checks lo hi (initial Γ w v) (judge_value Γ w v)
-  value_right (constant k) Γ w lo hi i = tested lo hi 11 k i (integer_told w false (Γ.text.value k))
-  value_right (signed s k) Γ w lo hi i = tested lo hi 11 s i (integer_told w true (Γ.text.value k))
-  value_right (minus_signed s k) Γ w lo hi i = tested lo hi 11 s i (integer_told w true (Γ.text.value k))
+  value_right (constant k) Γ w lo hi i = tested lo hi (Misfit k) i (integer_decides w false (Γ.text.value k))
+  value_right (signed s k) Γ w lo hi i = tested lo hi (Misfit s) i (integer_decides w true (Γ.text.value k))
+  value_right (minus_signed s k) Γ w lo hi i = tested lo hi (Misfit s) i (integer_decides w true (Γ.text.value k))
   value_right (identifier n) Γ w lo hi i =
-      likewise _ (λ k p x. x) (λ k p x. x) (chain (λ t u. TakesName w t u) _ _ (look_judged Γ n Keeps keeps lo hi keeps_tells i) (λ t h. lacking lo hi 11 n i (unit_tells (name_told w t))))
-  value_right (string k) Γ w lo hi i = tested lo hi 11 k i (string_told w (Γ.text.size k))
-  value_right (empty_list k) Γ w lo hi i = tested lo hi 11 k i (list_told Γ w 0 0)
+      cleaned (chain (λ t u. TakesName w t u) _ _ (look_judged Γ n Keeps keeps lo hi keeps_tells i) (λ t h. lacking lo hi (Misfit n) i (tells_unit _ (name_decides w t))))
+  value_right (string k) Γ w lo hi i = tested lo hi (Misfit k) i (string_decides w (Γ.text.size k))
+  value_right (empty_list k) Γ w lo hi i = tested lo hi (Misfit k) i (list_decides Γ w 0 0)
   value_right (list k vs) Γ w lo hi i =
       let s = value_in (list k vs) lo hi i in
-      then_tested lo hi 11 k s (wider lo hi (omega (arith, i.0)) (omega arith) (values_right vs Γ w (k + 1) hi i.1)) (list_told Γ w (how_many vs) (total Γ.text.value vs))
+      then_tested lo hi (Misfit k) s (wider lo hi (omega (arith, i.0)) (omega arith) (values_right vs Γ w (k + 1) hi i.1)) (list_decides Γ w (how_many vs) (total Γ.text.value vs))
 
   pub values_right : (vs : Values) (Γ : Env) (w : Want) (lo hi : ℕ) → InValues lo vs hi → Checks lo hi (listed Γ w vs) (judge_values Γ w vs)
   values_right (only e) Γ w lo hi i = entry_right e Γ w 0 lo hi i
   values_right (and vs e) Γ w lo hi i =
-      let f = values_le vs lo i.0 i.1 in
-      let g = entry_le e i.0 hi i.2 in
-      next (omega arith) (omega arith) (values_right vs Γ w lo i.0 i.1) (entry_right e Γ w (how_many vs) i.0 hi i.2)
+      next (values_right vs Γ w lo i.0 i.1) (entry_right e Γ w (how_many vs) i.0 hi i.2)
 
   pub entry_right : (e : Entry) (Γ : Env) (w : Want) (k lo hi : ℕ) → InEntry lo e hi → Checks lo hi (an_entry Γ w k e) (judge_entry Γ w k e)
   entry_right (once v) Γ w k lo hi i = value_right v Γ (inner Γ w k) lo hi i
-  entry_right (repeated v j n) Γ w k lo hi i = then_tested lo hi 11 (front_value v) (value_in v lo hi i) (value_right v Γ (inner Γ w k) lo hi i) (repeats_told w)
+  entry_right (repeated v j n) Γ w k lo hi i = then_tested lo hi (Misfit (front_value v)) (value_in v lo hi i) (value_right v Γ (inner Γ w k) lo hi i) (repeats_decides w)
 
 -- Without a value.
-starts_told : (m : Mode) → Told (Starts m tt) (is_plain m)
-starts_told (plain k) = yes tt
-starts_told (ref k) = no (λ x. x)
-starts_told (ref_record r) = no (λ x. x)
-starts_told (ref_array e) = no (λ x. x)
+all_decides : (ms : List Mode) → Decides (list_all is_plain ms) (AllStart ms tt)
+all_decides [] = yes tt
+all_decides (m ∷ ms) = Decides-and _ _ (starts_decides m) (all_decides ms)
 
-all_told : (ms : List Mode) → Told (AllStart ms tt) (all_plain ms)
-all_told [] = yes tt
-all_told (m ∷ ms) = told_and (starts_told m) (all_told ms)
+element_decides : (Γ : Env) (e : Element) → Decides (element_starts Γ e) (ElementStarts Γ e tt)
+element_decides Γ (simple m) = starts_decides m
+element_decides Γ (records r) = all_decides (record_modes Γ.parts r)
 
-element_told : (Γ : Env) (e : Element) → Told (ElementStarts Γ e tt) (element_starts Γ e)
-element_told Γ (simple m) = starts_told m
-element_told Γ (records r) = all_told (record_modes Γ.parts r)
-
-valueless_told : (Γ : Env) (w : Want) → Told (Valueless Γ w tt) (valueless Γ w)
-valueless_told Γ free = yes tt
-valueless_told Γ (simply m) = starts_told m
-valueless_told Γ (several n e) = told_or (eqb_told n 0) (element_told Γ e)
-valueless_told Γ (recorded r) = all_told (record_modes Γ.parts r)
+valueless_decides : (Γ : Env) (w : Want) → Decides (valueless Γ w) (Valueless Γ w tt)
+valueless_decides Γ free = yes tt
+valueless_decides Γ (simply m) = starts_decides m
+valueless_decides Γ (several n e) = Decides-or _ _ (Decides-eqb n 0) (element_decides Γ e)
+valueless_decides Γ (recorded r) = all_decides (record_modes Γ.parts r)
 
 data_item_right : (Γ : Env) (w : Want) (x : Init Value) (lo hi : ℕ) → InInit InValue lo x hi → Checks lo hi (data_item Γ w x) (judge_data_item Γ w x)
-data_item_right Γ w (tree.plain n) lo hi i = tested lo hi 12 n i (valueless_told Γ w)
+data_item_right Γ w (tree.plain n) lo hi i = tested lo hi (NoValue n) i (valueless_decides Γ w)
 data_item_right Γ w (given ns v) lo hi i =
     let f = many_le InName name_le ns lo i.0 i.1 in
     wider lo hi (omega arith) (omega arith) (value_right v Γ w i.0 hi i.2)
 
-items_le : (is : Many (Init Value)) (lo hi : ℕ) → InMany (InInit InValue) lo is hi → lo ≤ hi
-items_le is lo hi i = many_le _ (init_le InValue value_le) is lo hi i
-
 items_right : (Γ : Env) (w : Want) (is : Many (Init Value)) (lo hi : ℕ) → InMany (InInit InValue) lo is hi → Checks lo hi (each (data_item Γ w) is) (judge_each (judge_data_item Γ w) is)
-items_right Γ w is lo hi i = each_right _ _ _ (init_le InValue value_le) (data_item_right Γ w) is lo hi i
+items_right Γ w is lo hi i = each_right _ _ _ (data_item_right Γ w) is lo hi i
 
 data_dec_right : (Γ : Env) (d : Dec (Many (Init Value))) (lo hi : ℕ) → InDec lo d hi → Checks lo hi (data_dec Γ d) (judge_data_dec Γ d)
-data_dec_right Γ tree.nothing lo hi i = nothing lo hi
-data_dec_right Γ (variables m is) lo hi i = next (mode_le m lo i.0 i.1) (items_le is i.0 hi i.2) (written_right Γ m lo i.0 i.1) (items_right Γ (simply (mode_of Γ.text m)) is i.0 hi i.2)
-data_dec_right Γ (arrays b n m is) lo hi i = next (element_le m lo i.0 i.1) (items_le is i.0 hi i.2) (element_right Γ m lo i.0 i.1) (items_right Γ (several (Γ.text.value n) (element_of Γ.text m)) is i.0 hi i.2)
+data_dec_right Γ tree.nothing lo hi i = nothing i
+data_dec_right Γ (variables m is) lo hi i = next (written_right Γ m lo i.0 i.1) (items_right Γ (simply (mode_of Γ.text m)) is i.0 hi i.2)
+data_dec_right Γ (arrays b n m is) lo hi i = next (element_right Γ m lo i.0 i.1) (items_right Γ (several (Γ.text.value n) (element_of Γ.text m)) is i.0 hi i.2)
 data_dec_right Γ (structures n is) lo hi i =
-    next (omega (arith, i.0)) (items_le is (n + 1) hi i.1) (record_name_right Γ n lo (n + 1) (i.0, omega arith)) (items_right Γ (recorded (Γ.text.word n)) is (n + 1) hi i.1)
-
-dec_le : (d : Dec (Many (Init Value))) (lo hi : ℕ) → InDec lo d hi → lo ≤ hi
-dec_le tree.nothing lo hi i = i
-dec_le (variables m is) lo hi i =
-    let f = mode_le m lo i.0 i.1 in
-    let g = items_le is i.0 hi i.2 in
-    omega arith
-dec_le (arrays b n m is) lo hi i =
-    let f = element_le m lo i.0 i.1 in
-    let g = items_le is i.0 hi i.2 in
-    omega arith
-dec_le (structures n is) lo hi i = let g = items_le is (n + 1) hi i.1 in omega (arith, i.0)
+    next (record_name_right Γ n lo (n + 1) (i.0, omega arith)) (items_right Γ (recorded (Γ.text.word n)) is (n + 1) hi i.1)
 
 -- Modes, parameters and components.
-fields_le : (fs : Fields) (lo hi : ℕ) → InFields lo fs hi → lo ≤ hi
-fields_le (tree.field m n) lo hi i = let f = mode_le m lo i.0 i.1 in let g = i.2 in omega arith
-fields_le (also fs n) lo hi i = let f = fields_le fs lo i.0 i.1 in let g = i.2 in omega arith
-fields_le (tree.next fs m n) lo hi i =
-    let f = fields_le fs lo i.0 i.1 in
-    let g = mode_le m i.0 i.2.0 i.2.1 in
-    let h = i.2.2 in
-    omega arith
-
 fields_right : (Γ : Env) (fs : Fields) (lo hi : ℕ) → InFields lo fs hi → Checks lo hi (fields_written Γ fs) (judge_fields Γ fs)
 fields_right Γ (tree.field m n) lo hi i = let g = i.2 in wider lo hi (omega arith) (omega arith) (written_right Γ m lo i.0 i.1)
 fields_right Γ (also fs n) lo hi i = let g = i.2 in wider lo hi (omega arith) (omega arith) (fields_right Γ fs lo i.0 i.1)
 fields_right Γ (tree.next fs m n) lo hi i =
-    let g = mode_le m i.0 i.2.0 i.2.1 in
     let h = i.2.2 in
-    next (fields_le fs lo i.0 i.1) (omega arith) (fields_right Γ fs lo i.0 i.1) (wider i.0 hi (omega arith) (omega arith) (written_right Γ m i.0 i.2.0 i.2.1))
+    next (fields_right Γ fs lo i.0 i.1) (wider i.0 hi (omega arith) (omega arith) (written_right Γ m i.0 i.2.0 i.2.1))
 
-opt_le : {A : Type 0} (I : ℕ → A → ℕ → Type 0) → ((a : A) (lo hi : ℕ) → I lo a hi → lo ≤ hi) → (o : Opt A) (lo hi : ℕ) → InOpt I lo o hi → lo ≤ hi
-opt_le I le tree.none lo hi i = i
-opt_le I le (tree.some a) lo hi i = le a lo hi i
+opt_right :
+    {A : Type 0} (W : A → Wrongs) (f : A → Result (Unit {0}) Refusal) (I : ℕ → A → ℕ → Type 0)
+    → ((a : A) (lo hi : ℕ) → I lo a hi → Checks lo hi (W a) (f a))
+    → (o : Opt A) (lo hi : ℕ) → InOpt I lo o hi → Checks lo hi (optional W o) (judge_opt f o)
+opt_right W f I right tree.none lo hi i = nothing i
+opt_right W f I right (tree.some a) lo hi i = right a lo hi i
 
-maybe_right : (Γ : Env) (o : Opt tree.Mode) (lo hi : ℕ) → InOpt InMode lo o hi → Checks lo hi (maybe_written Γ o) (judge_opt (judge_written Γ) o)
-maybe_right Γ tree.none lo hi i = nothing lo hi
-maybe_right Γ (tree.some m) lo hi i = written_right Γ m lo hi i
-
-modes_right : (Γ : Env) (o : Opt (Many tree.Mode)) (lo hi : ℕ) → InOpt (InMany InMode) lo o hi → Checks lo hi (modes_written Γ o) (judge_opt (judge_each (judge_written Γ)) o)
-modes_right Γ tree.none lo hi i = nothing lo hi
-modes_right Γ (tree.some ms) lo hi i = each_right _ _ _ mode_le (written_right Γ) ms lo hi i
-
-parameters_right : (Γ : Env) (o : Opt Fields) (lo hi : ℕ) → InOpt InFields lo o hi → Checks lo hi (parameters_written Γ o) (judge_opt (judge_fields Γ) o)
-parameters_right Γ tree.none lo hi i = nothing lo hi
-parameters_right Γ (tree.some fs) lo hi i = fields_right Γ fs lo hi i
+maybe_right : (Γ : Env) (o : Opt tree.Mode) (lo hi : ℕ) → InOpt InMode lo o hi → Checks lo hi (optional (written Γ) o) (judge_opt (judge_written Γ) o)
+maybe_right Γ o lo hi i = opt_right _ _ InMode (written_right Γ) o lo hi i
 
 -- EXT.
-no_modes_told : (ms : List Mode) → Told (ms ≡ []) (no_modes ms)
-no_modes_told [] = yes refl
-no_modes_told (m ∷ ms) = no (λ e. grind arith)
+modes_decides : (ms ks : List Mode) → Decides (pointwise same_mode ms ks) (ms ≡ ks)
+modes_decides ms ks = slice_eq-Decides same_mode_decides ms ks _ refl
 
-one_byte_told : (ms : List Mode) → Told (ms ≡ BYTE ∷ []) (one_byte ms)
-one_byte_told [] = no (λ e. grind arith)
-one_byte_told (m ∷ ms) = told_like (λ x. rw (x.0, x.1) refl) (λ e. (cc, cc)) (told_and (same_mode_told m BYTE) (no_modes_told ms))
+triple : {P Q R : Type 0} {a b c : Bool} → Decides a P → Decides b Q → Decides c R → Decides (a && (b && c)) (P × Q × R)
+triple p q r = Decides-like _ (λ x. (x.0, x.1.0, x.1.1)) (λ x. (x.0, (x.1, x.2))) (Decides-and _ _ p (Decides-and _ _ q r))
 
-no_mode_told : (o : Option Mode) → Told (o ≡ None) (no_mode o)
-no_mode_told None = yes refl
-no_mode_told (Some m) = no (λ e. grind arith)
-
-triple : {P Q R : Type 0} {a b c : Bool} → Told P a → Told Q b → Told R c → Told (P × Q × R) (a && (b && c))
-triple p q r = told_like (λ x. (x.0, x.1.0, x.1.1)) (λ x. (x.0, (x.1, x.2))) (told_and p (told_and q r))
-
-admitted_told : (w : Word) (s : Signature) → Told (Admitted w s tt) (admitted w s)
-admitted_told w s =
-    told_or (triple (same_word_told w (codes "INBYTE")) (no_modes_told s.takes) (is_mode_told s.gives INT)) (triple (same_word_told w (codes "OUTBYTE")) (one_byte_told s.takes) (no_mode_told s.gives))
+admitted_decides : (w : Word) (s : Signature) → Decides (admitted w s) (Admitted w s tt)
+admitted_decides w s =
+    Decides-or _ _ (triple (bytes_eq-Decides w (codes "INBYTE")) (modes_decides s.takes []) (maybe_mode_decides s.gives (Some INT))) (triple (bytes_eq-Decides w (codes "OUTBYTE")) (modes_decides s.takes (BYTE ∷ [])) (maybe_mode_decides s.gives None))
 
 -- Module items.
-brick_le : (b : Brick) (lo hi : ℕ) → InBrick lo b hi → lo ≤ hi
-brick_le (store n ds) lo hi i = let f = many_le InDec dec_le ds (n + 1) hi i.1 in omega (arith, i.0)
-brick_le (procedure n k ps m b e) lo hi i =
-    let j = i.1 in
-    let f = opt_le InFields fields_le ps (n + 1) j.0 j.1 in
-    let g = opt_le InMode mode_le m j.0 j.2.0 j.2.1 in
-    let h = body_le b j.2.0 hi j.2.2 in
-    omega (arith, i.0)
-
 brick_right : (Γ : Env) (b : Brick) (lo hi : ℕ) → InBrick lo b hi → Checks lo hi (a_brick Γ b) (judge_brick Γ b)
-brick_right Γ (store n ds) lo hi i = wider lo hi (omega (arith, i.0)) (omega arith) (each_right (data_dec Γ) (judge_data_dec Γ) InDec dec_le (data_dec_right Γ) ds (n + 1) hi i.1)
+brick_right Γ (store n ds) lo hi i = wider lo hi (omega (arith, i.0)) (omega arith) (each_right (data_dec Γ) (judge_data_dec Γ) InDec (data_dec_right Γ) ds (n + 1) hi i.1)
 brick_right Γ (procedure n k ps m b e) lo hi i =
     let j = i.1 in
-    let f = opt_le InFields fields_le ps (n + 1) j.0 j.1 in
-    let g = opt_le InMode mode_le m j.0 j.2.0 j.2.1 in
-    let h = body_le b j.2.0 hi j.2.2 in
     wider lo hi (omega (arith, i.0)) (omega arith)
-    (next f (omega arith) (parameters_right (outermost (in_procedure Γ ps m) b) ps (n + 1) j.0 j.1)
-    (next g h (maybe_right Γ m j.0 j.2.0 j.2.1) (body_right (in_procedure Γ ps m) b j.2.0 hi j.2.2)))
-
-moditem_le : (x : Moditem) (lo hi : ℕ) → InModitem lo x hi → lo ≤ hi
-moditem_le blank lo hi i = i
-moditem_le (external_procs k ms m ns) lo hi i =
-    let j = i.2 in
-    let f = opt_le (InMany InMode) (many_le InMode mode_le) ms lo i.0 i.1 in
-    let g = opt_le InMode mode_le m i.0 j.0 j.1 in
-    let h = many_le InName name_le ns j.0 hi j.2 in
-    omega arith
-moditem_le (external_store n ds) lo hi i = omega arith
-moditem_le (tree.record_mode n k fs) lo hi i = let f = fields_le fs (n + 1) hi i.1 in omega (arith, i.0)
-moditem_le (own b) lo hi i = brick_le b lo hi i
-moditem_le (entry b) lo hi i = brick_le b lo hi i
+    (next (opt_right _ _ InFields (fields_right (outermost (in_procedure Γ ps m) b)) ps (n + 1) j.0 j.1)
+    (next (maybe_right Γ m j.0 j.2.0 j.2.1) (body_right (in_procedure Γ ps m) b j.2.0 hi j.2.2)))
 
 moditem_right : (Γ : Env) (x : Moditem) (lo hi : ℕ) → InModitem lo x hi → Checks lo hi (moditem Γ x) (judge_moditem Γ x)
-moditem_right Γ blank lo hi i = nothing lo hi
+moditem_right Γ blank lo hi i = nothing i
 moditem_right Γ (external_procs k ms m ns) lo hi i =
     let j = i.2 in
-    let g = opt_le InMode mode_le m i.0 j.0 j.1 in
-    let h = many_le InName name_le ns j.0 hi j.2 in
-    next (opt_le (InMany InMode) (many_le InMode mode_le) ms lo i.0 i.1) (omega arith) (modes_right Γ ms lo i.0 i.1)
-    (next g h (maybe_right Γ m i.0 j.0 j.1)
-    (each_right _ _ InName name_le (λ n lo hi q. tested lo hi 10 n q (admitted_told (Γ.text.word n) (record { takes = modes Γ.text ms; gives = maybe_mode Γ.text m }))) ns j.0 hi j.2))
-moditem_right Γ (external_store n ds) lo hi i = likewise _ (λ k p w. w) (λ k p w. w) (refusing lo hi 10 n i)
+    next (opt_right _ _ (InMany InMode) (each_right _ _ _ (written_right Γ)) ms lo i.0 i.1)
+    (next (maybe_right Γ m i.0 j.0 j.1)
+    (each_right _ _ InName (λ n lo hi q. tested lo hi (WrongName n) q (admitted_decides (Γ.text.word n) (record { takes = modes Γ.text ms; gives = maybe_mode Γ.text m }))) ns j.0 hi j.2))
+moditem_right Γ (external_store n ds) lo hi i = cleaned (refusing lo hi (WrongName n) i)
 moditem_right Γ (tree.record_mode n k fs) lo hi i = wider lo hi (omega (arith, i.0)) (omega arith) (fields_right (in_record Γ fs) fs (n + 1) hi i.1)
 moditem_right Γ (own b) lo hi i = brick_right Γ b lo hi i
 moditem_right Γ (entry b) lo hi i = brick_right Γ b lo hi i
 
 pub module_right : (x : Text) (m : Module) (lo hi : ℕ) → InModule lo m hi → Checks lo hi (module_wrongs x m) (judge_module x m)
-module_right x m lo hi i = each_right _ _ InModitem moditem_le (moditem_right (module_env x m)) m lo hi i
+module_right x m lo hi i = each_right _ _ InModitem (moditem_right (module_env x m)) m lo hi i

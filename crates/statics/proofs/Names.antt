@@ -1,107 +1,77 @@
 -- What a name means. Assumes nothing.
-use Rattle.std.proofs.Common.{◌≡◌, ℕ, zero, suc, ◌<◌, Bool, true, false, cond, ◌⊎◌, length, get_or, Some, Option, refl, ap, subst, inl, inr, arith}
-use Rattle.statics.specs.Modes.{Word, Thing, place}
+use Rattle.std.proofs.Common.{◌≡◌, ℕ, zero, suc, ◌<◌, Bool, true, false, cond, ◌⊎◌, length, get_or, Some, Option, refl, subst, inl, inr, arith}
+use Rattle.std.specs.Bool.{Decides}
+use Rattle.std.proofs.lemmas.Bool.{cases_order}
+use Rattle.std.proofs.lemmas.Bool.Decides.{Decides-and, Decides-ltb, not_from_Decides}
+use Rattle.std.proofs.lemmas.Slice.Eq.{bytes_eq-Decides}
+use Rattle.statics.specs.declared.Refusal.TheVariants.{WrongName}
+use Rattle.statics.specs.Modes.{Word, place}
 use Rattle.statics.specs.Laws.{Lacks}
-use Rattle.statics.specs.Scopes.{Env, Class, record_mode, brick, stored, local, routine, part, Signature, Head, thing, signature, nobody, class_at, component_at, LastOf, Means, Called, Stands, Keeps, Runs, Heads, Shapes, Belongs, Selects}
+use Rattle.statics.specs.Scopes.{Env, Class, record_mode, stored, local, routine, thing, signature, nobody, class_at, component_at, LastOf, Means, Called, Stands, Keeps, Runs, Heads, Shapes, Belongs, Selects}
 use Rattle.statics.specs.Order.{Span}
 use Rattle.statics.specs.JudgeExpressions.{seek, called_at, look, stands, keeps, runs, heads, shapes, selects}
-use Rattle.statics.proofs.Decide.{Told, yes, no, Tells, found, none, Judged, lacking}
-use Rattle.statics.proofs.Fit.{told_and, ltb_told, same_word_told, tells_like, tells_if, tells_maybe, tells_bind}
+use Rattle.statics.proofs.Decide.{Tells, found, none, Judged, lacking}
+use Rattle.statics.proofs.Fit.{tells_like, tells_if, tells_maybe, tells_bind}
 
 last_one : (n : ℕ) (P : ℕ → Type 0) (i j : ℕ) → LastOf n P i → LastOf n P j → i ≡ j
-last_one n P i j a b = go (order i j)
+last_one n P i j a b = go (cases_order i j)
   where
-    order : (i j : ℕ) → (i < j) ⊎ ((j < i) ⊎ (i ≡ j))
-    order i j = grind arith
+    go : (i ≡ j) ⊎ ((i < j) ⊎ (j < i)) → i ≡ j
+    go (inl e) = e
+    go (inr (inl h)) = absurd (a.2 j h b.0 b.1)
+    go (inr (inr h)) = absurd (b.2 i h a.0 a.1)
 
-    go : (i < j) ⊎ ((j < i) ⊎ (i ≡ j)) → i ≡ j
-    go (inl h) = absurd (a.2 j h b.0 b.1)
-    go (inr (inl h)) = absurd (b.2 i h a.0 a.1)
-    go (inr (inr e)) = e
-
-pub seek_tells : (n : ℕ) (P : ℕ → Type 0) (t : ℕ → Bool) → ((k : ℕ) → Told (P k) (t k)) → Tells (LastOf n P) (seek n t)
+pub seek_tells : (n : ℕ) (P : ℕ → Type 0) (t : ℕ → Bool) → ((k : ℕ) → Decides (t k) (P k)) → Tells (LastOf n P) (seek n t)
 seek_tells zero P t told = none (λ i l. omega (arith, l.0))
-seek_tells (suc n) P t told = go (told n) (seek_tells n P t told)
+seek_tells (suc n) P t told = go (t n) (told n) (seek_tells n P t told)
   where
     step : (k : ℕ) → k < suc n → (k < n) ⊎ (k ≡ n)
     step k h = grind arith
 
-    go : {b : Bool} {o : Option ℕ} → Told (P n) b → Tells (LastOf n P) o → Tells (LastOf (suc n) P) (cond b (Some n) o)
-    go (yes h) l =
-        let here : LastOf (suc n) P n = (omega arith, h, λ k a b p. omega arith) in
+    go : (b : Bool) {o : Option ℕ} → Decides b (P n) → Tells (LastOf n P) o → Tells (LastOf (suc n) P) (cond b (Some n) o)
+    go true d l =
+        let here : LastOf (suc n) P n = (omega arith, d.0 refl, λ k a b p. omega arith) in
         found here (λ j m. last_one (suc n) P j n m here)
-    go (no h) (none l) = none (λ i m. elim (step i m.0) [ inl a ↦ l i (a, m.1, λ k x y p. m.2 k x (omega arith) p) | inr q ↦ h (subst P q m.1) ])
-    go (no h) (found {a = i} l one) =
-        let here : LastOf (suc n) P i = (let a = l.0 in omega arith, l.1, λ k a b p. elim (step k b) [ inl c ↦ l.2 k a c p | inr q ↦ h (subst P q p) ]) in
+    go false d (none l) = none (λ i m. elim (step i m.0) [ inl a ↦ l i (a, m.1, λ k x y p. m.2 k x (omega arith) p) | inr q ↦ not_from_Decides false d refl (subst P q m.1) ])
+    go false d (found {a = i} l one) =
+        let here : LastOf (suc n) P i = (let a = l.0 in omega arith, l.1, λ k a b p. elim (step k b) [ inl c ↦ l.2 k a c p | inr q ↦ not_from_Decides false d refl (subst P q p) ]) in
         found here (λ j m. last_one (suc n) P j i m here)
 
 called_tells : (Γ : Env) (n : ℕ) → Tells (Means Γ n) (called_at Γ n)
 called_tells Γ n =
     tells_like _ (λ i x. (rw x.2.1 x.1, rw x.2.1 x.2.0)) (λ i x. (i, x.0, (x.1, refl)))
     (tells_bind (λ i j. (i < Γ.ready) × (j ≡ i)) _
-    (seek_tells (length Γ.names) (λ k. (get_or Γ.names k nobody).word ≡ Γ.text.word n) _ (λ k. same_word_told (get_or Γ.names k nobody).word (Γ.text.word n)))
-    (λ i. tells_if i (ltb_told i Γ.ready)))
+    (seek_tells (length Γ.names) (λ k. (get_or Γ.names k nobody).word ≡ Γ.text.word n) _ (λ k. bytes_eq-Decides (get_or Γ.names k nobody).word (Γ.text.word n)))
+    (λ i. tells_if _ i (Decides-ltb i Γ.ready)))
 
 -- a name picked by its class
-pub look_judged : {A : Type 0} (Γ : Env) (n : ℕ) (P : Class → A → Type 0) (pick : Class → Option A) (lo hi : ℕ) → ((c : Class) → Tells (P c) (pick c)) → Span lo hi n → Judged lo hi (Called Γ n P) (Lacks (Called Γ n P) 10 n) (look Γ n pick)
-look_judged Γ n P pick lo hi t s = lacking lo hi 10 n s (tells_bind (λ i. P (class_at Γ i)) _ (called_tells Γ n) (λ i. t (class_at Γ i)))
+pub look_judged : {A : Type 0} (Γ : Env) (n : ℕ) (P : Class → A → Type 0) (pick : Class → Option A) (lo hi : ℕ) → ((c : Class) → Tells (P c) (pick c)) → Span lo hi n → Judged lo hi (Called Γ n P) (Lacks (Called Γ n P) (WrongName n)) (look Γ n pick)
+look_judged Γ n P pick lo hi t s = lacking lo hi (WrongName n) s (tells_bind (λ i. P (class_at Γ i)) _ (called_tells Γ n) (λ i. t (class_at Γ i)))
 
 pub stands_tells : (c : Class) → Tells (Stands c) (stands c)
-stands_tells record_mode = none (λ t x. x)
-stands_tells brick = none (λ t x. x)
 stands_tells (stored t) = found refl (λ u x. x)
 stands_tells (local m) = found refl (λ u x. x)
-stands_tells (routine s) = none (λ t x. x)
-stands_tells part = none (λ t x. x)
+stands_tells _ = none (λ t x. x)
 
 pub keeps_tells : (c : Class) → Tells (Keeps c) (keeps c)
-keeps_tells record_mode = none (λ t x. x)
-keeps_tells brick = none (λ t x. x)
 keeps_tells (stored t) = found refl (λ u x. x)
-keeps_tells (local m) = none (λ t x. x)
-keeps_tells (routine s) = none (λ t x. x)
-keeps_tells part = none (λ t x. x)
+keeps_tells _ = none (λ t x. x)
 
 pub runs_tells : (c : Class) → Tells (Runs c) (runs c)
-runs_tells record_mode = none (λ t x. x)
-runs_tells brick = none (λ t x. x)
-runs_tells (stored t) = none (λ t x. x)
-runs_tells (local m) = none (λ t x. x)
 runs_tells (routine s) = found refl (λ u x. x)
-runs_tells part = none (λ t x. x)
+runs_tells _ = none (λ t x. x)
 
 pub shapes_tells : (c : Class) → Tells (Shapes c) (shapes c)
 shapes_tells record_mode = found tt (λ u x. refl)
-shapes_tells brick = none (λ t x. x)
-shapes_tells (stored t) = none (λ t x. x)
-shapes_tells (local m) = none (λ t x. x)
-shapes_tells (routine s) = none (λ t x. x)
-shapes_tells part = none (λ t x. x)
+shapes_tells _ = none (λ t x. x)
 
 pub heads_tells : (c : Class) → Tells (Heads c) (heads c)
-heads_tells c = go c
-  where
-    only : (c : Class) (t : Thing) → ((u : Thing) → Stands c u → u ≡ t) → ((s : Signature) → Runs c s → ⊥) → (h : Head) → Heads c h → h ≡ thing t
-    only c t f g (thing u) x = ap thing (f u x)
-    only c t f g (signature s) x = absurd (g s x)
-
-    nowhere : (c : Class) → ((u : Thing) → Stands c u → ⊥) → ((s : Signature) → Runs c s → ⊥) → (h : Head) → Heads c h → ⊥
-    nowhere c f g (thing u) x = f u x
-    nowhere c f g (signature s) x = g s x
-
-    run : (s : Signature) (h : Head) → Heads (routine s) h → h ≡ signature s
-    run s (thing u) x = absurd x
-    run s (signature u) x = ap signature x
-
-    go : (c : Class) → Tells (Heads c) (heads c)
-    go record_mode = none (nowhere record_mode (λ u x. x) (λ s x. x))
-    go brick = none (nowhere brick (λ u x. x) (λ s x. x))
-    go (stored t) = found {a = thing t} refl (only (stored t) t (λ u x. x) (λ s x. x))
-    go (local m) = found {a = thing (place false m)} refl (only (local m) (place false m) (λ u x. x) (λ s x. x))
-    go (routine s) = found {a = signature s} refl (run s)
-    go part = none (nowhere part (λ u x. x) (λ s x. x))
+heads_tells (stored t) = found {a = thing t} refl (λ h x. grind arith)
+heads_tells (local m) = found {a = thing (place false m)} refl (λ h x. grind arith)
+heads_tells (routine s) = found {a = signature s} refl (λ h x. grind arith)
+heads_tells c = none (λ h x. grind arith)
 
 pub selects_tells : (Γ : Env) (r : Word) (n : ℕ) → Tells (Selects Γ r n) (selects Γ r n)
 selects_tells Γ r n =
     tells_maybe (λ i. place true (component_at Γ i).mode)
-    (seek_tells (length Γ.parts) (Belongs Γ r (Γ.text.word n)) _ (λ k. told_and (same_word_told (component_at Γ k).owner r) (same_word_told (component_at Γ k).word (Γ.text.word n))))
+    (seek_tells (length Γ.parts) (Belongs Γ r (Γ.text.word n)) _ (λ k. Decides-and _ _ (bytes_eq-Decides (component_at Γ k).owner r) (bytes_eq-Decides (component_at Γ k).word (Γ.text.word n))))

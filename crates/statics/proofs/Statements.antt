@@ -1,54 +1,43 @@
 -- Blocks and statements are judged right. Assumes nothing.
-use Rattle.std.proofs.Common.{◌≡◌, ℕ, ◌+◌, ◌≤◌, Bool, ◌⊎◌, length, Some, None, Option, Result, sym, refl, subst, inl, inr, arith}
+use Rattle.std.proofs.Common.{◌≡◌, ℕ, ◌+◌, ◌≤◌, Bool, length, Some, None, Err, Option, refl, inl, arith}
+use Rattle.std.specs.Bool.{Decides}
 use Rattle.statics.specs.declared.Refusal.{Refusal}
+use Rattle.statics.specs.Refusals.{place_of}
+use Rattle.statics.specs.declared.Refusal.TheVariants.{Misfit, NoValue}
 use Rattle.grammar.specs.Trees.{Expr, Variable, Exprs, Many, one, more, Init, given, Local, Locals, no_locals, locals, Destination, val, Body, body, Sequence, single, sequel, Statement, dummy, block, assign, invoke, invoke_on, branch, branch_else, repeat, loop, return, return_with, Arms, when, elsewhen}
 use Rattle.grammar.specs.Trees as tree
-use Rattle.statics.specs.Modes.{Mode, plain, ref, ref_record, ref_array, INT, mode}
-use Rattle.statics.specs.Laws.{Wrongs, At, Both, Lacks, Clean}
+use Rattle.statics.specs.Modes.{Mode, plain, INT, mode}
+use Rattle.statics.specs.Laws.{At, Lacks, Clean}
 use Rattle.statics.specs.Scopes.{Env, Shapes, after}
 use Rattle.statics.specs.Fronts.{spot, front_variable, front_destination, front_destinations}
-use Rattle.statics.specs.Expressions.{Form, Gives, Off, expr, a_variable, count, condition}
+use Rattle.statics.specs.Expressions.{Form, Gives, Off, expr, a_variable, count}
 use Rattle.statics.specs.Written.{mode_of, record_name, written, written_element, list_names}
 use Rattle.statics.specs.Statements.{into, Starts, local_item, local_items, local_dec, local_decs, entries, inside, ready_inside, aim, aimed, Joined, targets, Silent, a_body, sequence, statement, arms}
-use Rattle.statics.specs.Order.{Span, In, InVariable, InMany, InCondition, InMode, InElement, InName, InInit, InLocal, InLocals, InDestination, InBody, InSequence, InStatement, InArms}
-use Rattle.statics.specs.JudgeExpressions.{then, must, provided, bring, done, shapes, judge, judge_variable, judge_condition}
-use Rattle.statics.specs.JudgeStatements.{judge_record_name, judge_written, judge_element, judge_into, starts, judge_local_item, judge_local_items, judge_local_dec, judge_local_decs, join, judge_target, judge_targets, silent, judge_body, judge_sequence, judge_statement, judge_arms}
-use Rattle.statics.proofs.Decide.{Told, yes, no, Tells, found, none, Judged, lacking, like, wider, chain, alone, two, turn, plainly, likewise, next, nothing}
-use Rattle.statics.proofs.Fit.{same_mode_told}
+use Rattle.statics.specs.Order.{Span, In, InVariable, InMany, InMode, InElement, InName, InInit, InLocal, InLocals, InDestination, InBody, InSequence, InStatement, InArms}
+use Rattle.statics.specs.JudgeExpressions.{then, check, bring, done, shapes, judge, judge_variable}
+use Rattle.statics.specs.JudgeStatements.{judge_record_name, judge_written, judge_element, judge_into, is_plain, judge_local_item, judge_local_items, judge_local_dec, judge_local_decs, join, judge_target, judge_targets, silent, judge_body, judge_sequence, judge_statement, judge_arms}
+use Rattle.statics.proofs.Decide.{Tells, found, none, Also, Judged, lacking, like, cleaned, wider, chain, alone, two, turn, plainly, next, nothing}
+use Rattle.statics.proofs.Fit.{yes, no, tells_unit, same_mode_decides}
 use Rattle.statics.proofs.Names.{look_judged, shapes_tells}
-use Rattle.statics.proofs.Expressions.{Right, Checks, brought, front_in, spot_in, front_variable_in, exprs_le, many_le, condition_le, expr_right, variable_right, args_right, args_inner, called_right, condition_right}
+use Rattle.statics.proofs.Expressions.{Right, Checks, brought, front_in, spot_in, front_variable_in, exprs_le, many_le, expr_right, variable_right, args_right, args_inner, called_right, condition_right}
 
--- a check that asks for something of the one element
-pub asked : (lo hi k q : ℕ) (K : Unit {0} → Type 0) (o : Option (Unit {0})) → Span lo hi q → Tells K o → Checks lo hi (Lacks K k q) (must k q o)
-asked lo hi k q K o i t = likewise _ (λ n p w. w) (λ n p w. w) (lacking lo hi k q i t)
+-- a test, and f where it fails
+pub tested : {P : Type 0} {b : Bool} (lo hi : ℕ) (f : Refusal) → Span lo hi (place_of f) → Decides b P → Checks lo hi (Lacks (λ (u : Unit {0}). P) f) (check b f)
+tested lo hi f i d = cleaned (lacking lo hi f i (tells_unit _ d))
 
 pub brought_check : (Γ : Env) (m : Mode) (e : Expr 5) (lo hi : ℕ) → In lo e hi → Checks lo hi (Off (expr Γ e) (spot e) (mode m)) (then (bring (mode m) (spot e) (judge Γ e)) done)
 brought_check Γ m e lo hi i = plainly (brought lo hi (spot e) (expr Γ e) (mode m) (judge Γ e) (spot_in e lo hi i) (expr_right Γ e lo hi i))
 
 -- Modes.
-mutual
-  pub mode_le : (m : tree.Mode) (lo hi : ℕ) → InMode lo m hi → lo ≤ hi
-  mode_le tree.int lo hi i = i
-  mode_le (tree.byte k) lo hi i = i
-  mode_le tree.ref_int lo hi i = i
-  mode_le (tree.ref_byte k) lo hi i = i
-  mode_le (tree.ref_record n) lo hi i = omega arith
-  mode_le (tree.ref_array m) lo hi i = element_le m lo hi i
-  mode_le (tree.ref_array_brackets k m) lo hi i = element_le m lo hi i
-
-  pub element_le : (m : tree.Amode) (lo hi : ℕ) → InElement lo m hi → lo ≤ hi
-  element_le (tree.simple m) lo hi i = mode_le m lo hi i
-  element_le (tree.records n) lo hi i = omega arith
-
 pub record_name_right : (Γ : Env) (n lo hi : ℕ) → Span lo hi n → Checks lo hi (record_name Γ n) (judge_record_name Γ n)
-record_name_right Γ n lo hi i = likewise _ (λ k p w. w) (λ k p w. w) (look_judged Γ n Shapes shapes lo hi shapes_tells i)
+record_name_right Γ n lo hi i = cleaned (look_judged Γ n Shapes shapes lo hi shapes_tells i)
 
 mutual
   pub written_right : (Γ : Env) (m : tree.Mode) (lo hi : ℕ) → InMode lo m hi → Checks lo hi (written Γ m) (judge_written Γ m)
-  written_right Γ tree.int lo hi i = nothing lo hi
-  written_right Γ (tree.byte k) lo hi i = nothing lo hi
-  written_right Γ tree.ref_int lo hi i = nothing lo hi
-  written_right Γ (tree.ref_byte k) lo hi i = nothing lo hi
+  written_right Γ tree.int lo hi i = nothing i
+  written_right Γ (tree.byte k) lo hi i = nothing i
+  written_right Γ tree.ref_int lo hi i = nothing i
+  written_right Γ (tree.ref_byte k) lo hi i = nothing i
   written_right Γ (tree.ref_record n) lo hi i = record_name_right Γ n lo hi i
   written_right Γ (tree.ref_array m) lo hi i = element_right Γ m lo hi i
   written_right Γ (tree.ref_array_brackets k m) lo hi i = element_right Γ m lo hi i
@@ -58,27 +47,15 @@ mutual
   element_right Γ (tree.records n) lo hi i = record_name_right Γ n lo hi i
 
 -- Locals.
-starts_tells : (m : Mode) → Tells (Starts m) (starts m)
-starts_tells (plain k) = found tt (λ u x. refl)
-starts_tells (ref k) = none (λ u x. x)
-starts_tells (ref_record r) = none (λ u x. x)
-starts_tells (ref_array e) = none (λ u x. x)
+pub starts_decides : (m : Mode) → Decides (is_plain m) (Starts m tt)
+starts_decides (plain k) = yes tt
+starts_decides _ = no (λ x. x)
 
 pub name_le : (n lo hi : ℕ) → InName lo n hi → lo ≤ hi
 name_le n lo hi i = omega arith
 
-expr_le : (e : Expr 5) (lo hi : ℕ) → In lo e hi → lo ≤ hi
-expr_le e lo hi i = let f = front_in e lo hi i in omega arith
-
-pub init_le : {A : Type 0} (I : ℕ → A → ℕ → Type 0) → ((a : A) (lo hi : ℕ) → I lo a hi → lo ≤ hi) → (i : Init A) (lo hi : ℕ) → InInit I lo i hi → lo ≤ hi
-init_le I le (tree.plain n) lo hi i = omega arith
-init_le I le (given ns a) lo hi i =
-    let f = many_le InName name_le ns lo i.0 i.1 in
-    let g = le a i.0 hi i.2 in
-    omega arith
-
 local_item_right : (Γ : Env) (m : Mode) (x : Init (Expr 5)) (lo hi : ℕ) → InInit In lo x hi → Checks lo hi (local_item Γ m x) (judge_local_item Γ m x)
-local_item_right Γ m (tree.plain n) lo hi i = asked lo hi 12 n (Starts m) (starts m) i (starts_tells m)
+local_item_right Γ m (tree.plain n) lo hi i = tested lo hi (NoValue n) i (starts_decides m)
 local_item_right Γ m (given ns e) lo hi i =
     let f = many_le InName name_le ns lo i.0 i.1 in
     wider lo hi (omega arith) (omega arith) (brought_check Γ m e i.0 hi i.2)
@@ -86,48 +63,25 @@ local_item_right Γ m (given ns e) lo hi i =
 local_items_right : (Γ : Env) (m : Mode) (is : Many (Init (Expr 5))) (lo hi : ℕ) → InMany (InInit In) lo is hi → Checks lo hi (local_items Γ m is) (judge_local_items Γ m is)
 local_items_right Γ m (one x) lo hi i = local_item_right Γ m x lo hi i
 local_items_right Γ m (more is x) lo hi i =
-    next (many_le _ (init_le In expr_le) is lo i.0 i.1) (init_le In expr_le x i.0 hi i.2) (local_items_right Γ m is lo i.0 i.1) (local_item_right (after Γ (length (list_names is))) m x i.0 hi i.2)
+    next (local_items_right Γ m is lo i.0 i.1) (local_item_right (after Γ (length (list_names is))) m x i.0 hi i.2)
 
 local_dec_right : (Γ : Env) (l : Local) (lo hi : ℕ) → InLocal lo l hi → Checks lo hi (local_dec Γ l) (judge_local_dec Γ l)
 local_dec_right Γ (tree.local m is) lo hi i =
-    next (mode_le m lo i.0 i.1) (many_le _ (init_le In expr_le) is i.0 hi i.2) (written_right Γ m lo i.0 i.1) (local_items_right Γ (mode_of Γ.text m) is i.0 hi i.2)
-
-local_le : (l : Local) (lo hi : ℕ) → InLocal lo l hi → lo ≤ hi
-local_le (tree.local m is) lo hi i =
-    let f = mode_le m lo i.0 i.1 in
-    let g = many_le _ (init_le In expr_le) is i.0 hi i.2 in
-    omega arith
-
-pub locals_le : (ls : Locals) (lo hi : ℕ) → InLocals lo ls hi → lo ≤ hi
-locals_le no_locals lo hi i = i
-locals_le (locals ls l) lo hi i =
-    let f = locals_le ls lo i.0 i.1 in
-    let g = local_le l i.0 hi i.2 in
-    omega arith
+    next (written_right Γ m lo i.0 i.1) (local_items_right Γ (mode_of Γ.text m) is i.0 hi i.2)
 
 pub local_decs_right : (Γ : Env) (ls : Locals) (lo hi : ℕ) → InLocals lo ls hi → Checks lo hi (local_decs Γ ls) (judge_local_decs Γ ls)
-local_decs_right Γ no_locals lo hi i = nothing lo hi
+local_decs_right Γ no_locals lo hi i = nothing i
 local_decs_right Γ (locals ls l) lo hi i =
-    next (locals_le ls lo i.0 i.1) (local_le l i.0 hi i.2) (local_decs_right Γ ls lo i.0 i.1) (local_dec_right (after Γ (length (entries Γ.text ls))) l i.0 hi i.2)
+    next (local_decs_right Γ ls lo i.0 i.1) (local_dec_right (after Γ (length (entries Γ.text ls))) l i.0 hi i.2)
 
 -- Destinations.
-joined_to : (a : Option Mode) (m : Mode) → Joined a m (join a m)
-joined_to None m = refl
-joined_to (Some k) m = go (same_mode_told k m)
-  where
-    go : {b : Bool} → Told (k ≡ m) b → ((k ≡ m) × (provided b k ≡ Some k)) ⊎ ((k ≡ m → ⊥) × (provided b k ≡ None))
-    go (yes e) = inl (e, refl)
-    go (no e) = inr (e, refl)
+joined_to : (a : Option Mode) (m : Mode) (c : Option Mode) → c ≡ join a m → Joined a m c
+joined_to None m c e = e
+joined_to (Some k) m c e = grind (arith, same_mode_decides k m)
 
 joined_back : (a : Option Mode) (m : Mode) (c : Option Mode) → Joined a m c → c ≡ join a m
 joined_back None m c x = x
-joined_back (Some k) m c x = go (same_mode_told k m) x
-  where
-    go : {b : Bool} → Told (k ≡ m) b → Joined (Some k) m c → c ≡ provided b k
-    go (yes e) (inl y) = y.1
-    go (yes e) (inr y) = absurd (y.0 e)
-    go (no e) (inl y) = absurd (e y.0)
-    go (no e) (inr y) = y.1
+joined_back (Some k) m c x = grind (arith, same_mode_decides k m)
 
 aimed_in : (d : Destination) (lo hi : ℕ) → InDestination lo d hi → InVariable lo (aimed d) hi
 aimed_in (tree.place v) lo hi i = i
@@ -146,17 +100,14 @@ target_right Γ d lo hi i =
 destination_le : (d : Destination) (lo hi : ℕ) → InDestination lo d hi → lo ≤ hi
 destination_le d lo hi i = let f = front_variable_in (aimed d) lo hi (aimed_in d lo hi i) in omega arith
 
-pub destinations_le : (ds : Many Destination) (lo hi : ℕ) → InMany InDestination lo ds hi → lo ≤ hi
-destinations_le ds lo hi i = many_le _ destination_le ds lo hi i
-
 targets_right : (Γ : Env) (ds : Many Destination) (lo hi : ℕ) → InMany InDestination lo ds hi → Right lo hi (targets Γ ds) (judge_targets Γ ds)
 targets_right Γ (one d) lo hi i = turn Some (target_right Γ d lo hi i)
 targets_right Γ (more ds d) lo hi i =
     like _ _
-    (λ c h. (h.0, h.1, h.2, h.3, subst (Joined h.0 h.2) (sym h.4) (joined_to h.0 h.2)))
+    (λ c h. (h.0, h.1, h.2, h.3, joined_to h.0 h.2 c h.4))
     (λ c h. (h.0, h.1, h.2, h.3, joined_back h.0 h.2 c h.4))
-    (λ n p w. w) (λ n p w. w)
-    (two join (destinations_le ds lo i.0 i.1) (destination_le d i.0 hi i.2) (targets_right Γ ds lo i.0 i.1) (target_right Γ d i.0 hi i.2))
+    (λ f w. w) (λ f w. w)
+    (two join (targets_right Γ ds lo i.0 i.1) (target_right Γ d i.0 hi i.2))
 
 front_destination_in : (d : Destination) (lo hi : ℕ) → InDestination lo d hi → Span lo hi (front_destination d)
 front_destination_in (tree.place v) lo hi i = front_variable_in v lo hi i
@@ -170,115 +121,59 @@ front_destinations_in (more ds d) lo hi i =
     (f.0, omega arith)
 
 -- at p in any case
-pub refusing : (lo hi k p : ℕ) → Span lo hi p → Judged lo hi (λ (u : Unit {0}). ⊥) (At k p) (must k p None)
-refusing lo hi k p i = like _ _ (λ u x. x) (λ u x. x) (λ n q w. w.1) (λ n q w. ((λ u x. x), w)) (lacking lo hi k p i (none (λ u x. x)))
+pub refusing : (lo hi : ℕ) (f : Refusal) → Span lo hi (place_of f) → Judged lo hi (λ (u : Unit {0}). ⊥) (At f) (Err f)
+refusing lo hi f i = like _ _ (λ u x. x) (λ u x. x) (λ g w. w.1) (λ g w. ((λ u x. x), w)) (lacking lo hi f i (none (λ u x. x)))
 
 into_right : (Γ : Env) (o : Option Mode) (p : ℕ) (e : Expr 5) (lo mid hi : ℕ) → lo ≤ mid → Span lo hi p → In mid e hi → Checks lo hi (into o p (expr Γ e) (spot e)) (judge_into o p (judge Γ e) (spot e))
 into_right Γ None p e lo mid hi l i k =
-    likewise _ (λ n q w. w) (λ n q w. w)
-    (chain (λ u v. ⊥) _ _ (wider lo hi l (omega arith) (plainly (expr_right Γ e mid hi k))) (λ u h. refusing lo hi 11 p i))
+    cleaned (chain (λ u v. ⊥) _ _ (wider lo hi l (omega arith) (plainly (expr_right Γ e mid hi k))) (λ u h. refusing lo hi (Misfit p) i))
 into_right Γ (Some m) p e lo mid hi l i k = wider lo hi l (omega arith) (brought_check Γ m e mid hi k)
 
-into_inner : (q : ℕ) (x : Form) (s : ℕ) (o : Option Mode) (n p : ℕ) → x.wrong n p → into o q x s n p
-into_inner q x s None n p w = inl w
-into_inner q x s (Some m) n p w = inl w
+into_inner : (p : ℕ) (x : Form) (s : ℕ) (o : Option Mode) → Also x.wrong (into o p x s)
+into_inner p x s None f w = inl w
+into_inner p x s (Some m) f w = inl w
 
 silent_tells : (o : Option Mode) → Tells (Silent o) (silent o)
 silent_tells None = found tt (λ u x. refl)
 silent_tells (Some m) = none (λ u x. x)
 
 mutual
-  pub body_le : (b : Body) (lo hi : ℕ) → InBody lo b hi → lo ≤ hi
-  body_le (body ls s) lo hi i =
-      let f = locals_le ls lo i.0 i.1 in
-      let g = sequence_le s i.0 hi i.2 in
-      omega arith
-
-  pub sequence_le : (s : Sequence) (lo hi : ℕ) → InSequence lo s hi → lo ≤ hi
-  sequence_le (single s) lo hi i = statement_le s lo hi i
-  sequence_le (sequel ss s) lo hi i =
-      let f = sequence_le ss lo i.0 i.1 in
-      let g = statement_le s i.0 hi i.2 in
-      omega arith
-
-  pub statement_le : (s : Statement) (lo hi : ℕ) → InStatement lo s hi → lo ≤ hi
-  statement_le dummy lo hi i = i
-  statement_le (block b) lo hi i = body_le b lo hi i
-  statement_le (assign ds e) lo hi i =
-      let f = destinations_le ds lo i.0 i.1 in
-      let g = expr_le e i.0 hi i.2 in
-      omega arith
-  statement_le (invoke n k) lo hi i = omega arith
-  statement_le (invoke_on n k es) lo hi i = let f = exprs_le es (n + 1) hi i.1 in omega (arith, i.0)
-  statement_le (branch ws) lo hi i = arms_le ws lo hi i
-  statement_le (branch_else ws s) lo hi i =
-      let f = arms_le ws lo i.0 i.1 in
-      let g = sequence_le s i.0 hi i.2 in
-      omega arith
-  statement_le (repeat e b) lo hi i =
-      let f = expr_le e lo i.0 i.1 in
-      let g = body_le b i.0 hi i.2 in
-      omega arith
-  statement_le (loop c s) lo hi i =
-      let f = condition_le c lo i.0 i.1 in
-      let g = sequence_le s i.0 hi i.2 in
-      omega arith
-  statement_le (return k) lo hi i = omega arith
-  statement_le (return_with k j e) lo hi i = let f = expr_le e (k + 1) hi i.1 in omega (arith, i.0)
-
-  pub arms_le : (ws : Arms) (lo hi : ℕ) → InArms lo ws hi → lo ≤ hi
-  arms_le (when c s) lo hi i =
-      let f = condition_le c lo i.0 i.1 in
-      let g = sequence_le s i.0 hi i.2 in
-      omega arith
-  arms_le (elsewhen ws c s) lo hi i =
-      let f = arms_le ws lo i.0 i.1 in
-      let g = condition_le c i.0 i.2.0 i.2.1 in
-      let h = sequence_le s i.2.0 hi i.2.2 in
-      omega arith
-
--- a condition and what it governs
-guarded : (Γ : Env) (W : Wrongs) (r : Result (Unit {0}) Refusal) (lo mid hi : ℕ) → mid ≤ hi → (c : tree.Condition) → InCondition lo c mid → Checks mid hi W r → Checks lo hi (Both (condition Γ c) W) (then (judge_condition Γ c) (λ u. r))
-guarded Γ W r lo mid hi l c i x = next (condition_le c lo mid i) l (condition_right Γ c lo mid i) x
-
-mutual
   pub body_right : (Γ : Env) (b : Body) (lo hi : ℕ) → InBody lo b hi → Checks lo hi (a_body Γ b) (judge_body Γ b)
   body_right Γ (body ls s) lo hi i =
-      next (locals_le ls lo i.0 i.1) (sequence_le s i.0 hi i.2) (local_decs_right (inside Γ ls) ls lo i.0 i.1) (sequence_right (ready_inside Γ ls) s i.0 hi i.2)
+      next (local_decs_right (inside Γ ls) ls lo i.0 i.1) (sequence_right (ready_inside Γ ls) s i.0 hi i.2)
 
   pub sequence_right : (Γ : Env) (s : Sequence) (lo hi : ℕ) → InSequence lo s hi → Checks lo hi (sequence Γ s) (judge_sequence Γ s)
   sequence_right Γ (single s) lo hi i = statement_right Γ s lo hi i
   sequence_right Γ (sequel ss s) lo hi i =
-      next (sequence_le ss lo i.0 i.1) (statement_le s i.0 hi i.2) (sequence_right Γ ss lo i.0 i.1) (statement_right Γ s i.0 hi i.2)
+      next (sequence_right Γ ss lo i.0 i.1) (statement_right Γ s i.0 hi i.2)
 
   pub statement_right : (Γ : Env) (s : Statement) (lo hi : ℕ) → InStatement lo s hi → Checks lo hi (statement Γ s) (judge_statement Γ s)
-  statement_right Γ dummy lo hi i = nothing lo hi
+  statement_right Γ dummy lo hi i = nothing i
   statement_right Γ (block b) lo hi i = body_right Γ b lo hi i
   statement_right Γ (assign ds e) lo hi i =
       let k = i.0 in
-      let l = destinations_le ds lo k i.1 in
-      let g = expr_le e k hi i.2 in
+      let t = targets_right Γ ds lo k i.1 in
+      let x = expr_right Γ e k hi i.2 in
+      let g = x.order in
       let f = front_destinations_in ds lo k i.1 in
-      likewise _ (λ n p w. w) (λ n p w. w)
-      (alone (λ c. Clean (into c (front_destinations ds) (expr Γ e) (spot e))) _ (expr Γ e).wrong _ l g (targets_right Γ ds lo k i.1) (expr_right Γ e k hi i.2).within (into_inner (front_destinations ds) (expr Γ e) (spot e))
-      (λ c h. into_right Γ c (front_destinations ds) e lo k hi l (f.0, omega arith) i.2))
-  statement_right Γ (invoke n k) lo hi i = likewise _ (λ n p w. w) (λ n p w. w) (called_right Γ lo hi n 0 _ _ Silent silent i silent_tells (λ ms j p v. v) (λ ms. nothing (n + 1) hi))
+      cleaned
+      (alone (λ c. Clean (into c (front_destinations ds) (expr Γ e) (spot e))) _ (expr Γ e).wrong _ t g x.within (into_inner (front_destinations ds) (expr Γ e) (spot e))
+      (λ c h. into_right Γ c (front_destinations ds) e lo k hi t.order (f.0, omega arith) i.2))
+  statement_right Γ (invoke n k) lo hi i = cleaned (called_right Γ lo hi n 0 _ _ Silent silent i silent_tells (λ ms f v. v) (λ ms. nothing (omega (arith, i.1))))
   statement_right Γ (invoke_on n k es) lo hi i =
       let f = exprs_le es (n + 1) hi i.1 in
-      likewise _ (λ n p w. w) (λ n p w. w) (called_right Γ lo hi n (count es) _ _ Silent silent (i.0, omega arith) silent_tells (λ ms. args_inner Γ ms es) (λ ms. args_right Γ ms es (n + 1) hi i.1))
+      cleaned (called_right Γ lo hi n (count es) _ _ Silent silent (i.0, omega arith) silent_tells (λ ms. args_inner Γ ms es) (λ ms. args_right Γ ms es (n + 1) hi i.1))
   statement_right Γ (branch ws) lo hi i = arms_right Γ ws lo hi i
-  statement_right Γ (branch_else ws s) lo hi i = next (arms_le ws lo i.0 i.1) (sequence_le s i.0 hi i.2) (arms_right Γ ws lo i.0 i.1) (sequence_right Γ s i.0 hi i.2)
-  statement_right Γ (repeat e b) lo hi i = next (expr_le e lo i.0 i.1) (body_le b i.0 hi i.2) (brought_check Γ INT e lo i.0 i.1) (body_right Γ b i.0 hi i.2)
-  statement_right Γ (loop c s) lo hi i = guarded Γ _ _ lo i.0 hi (sequence_le s i.0 hi i.2) c i.1 (sequence_right Γ s i.0 hi i.2)
-  statement_right Γ (return k) lo hi i = asked lo hi 11 k (Silent Γ.result) (silent Γ.result) i (silent_tells Γ.result)
+  statement_right Γ (branch_else ws s) lo hi i = next (arms_right Γ ws lo i.0 i.1) (sequence_right Γ s i.0 hi i.2)
+  statement_right Γ (repeat e b) lo hi i = next (brought_check Γ INT e lo i.0 i.1) (body_right Γ b i.0 hi i.2)
+  statement_right Γ (loop c s) lo hi i = next (condition_right Γ c lo i.0 i.1) (sequence_right Γ s i.0 hi i.2)
+  statement_right Γ (return k) lo hi i = cleaned (lacking lo hi (Misfit k) i (silent_tells Γ.result))
   statement_right Γ (return_with k j e) lo hi i =
       let f = front_in e (k + 1) hi i.1 in
       into_right Γ Γ.result k e lo (k + 1) hi (omega (arith, i.0)) (i.0, omega arith) i.1
 
   pub arms_right : (Γ : Env) (ws : Arms) (lo hi : ℕ) → InArms lo ws hi → Checks lo hi (arms Γ ws) (judge_arms Γ ws)
-  arms_right Γ (when c s) lo hi i = guarded Γ _ _ lo i.0 hi (sequence_le s i.0 hi i.2) c i.1 (sequence_right Γ s i.0 hi i.2)
+  arms_right Γ (when c s) lo hi i = next (condition_right Γ c lo i.0 i.1) (sequence_right Γ s i.0 hi i.2)
   arms_right Γ (elsewhen ws c s) lo hi i =
       let j = i.2 in
-      let g = condition_le c i.0 j.0 j.1 in
-      let h = sequence_le s j.0 hi j.2 in
-      next (arms_le ws lo i.0 i.1) (omega arith) (arms_right Γ ws lo i.0 i.1) (guarded Γ _ _ i.0 j.0 hi h c j.1 (sequence_right Γ s j.0 hi j.2))
+      next (arms_right Γ ws lo i.0 i.1) (next (condition_right Γ c i.0 j.0 j.1) (sequence_right Γ s j.0 hi j.2))

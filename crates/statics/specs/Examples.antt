@@ -1,5 +1,6 @@
 -- Examples: modules and their verdicts, each item of the text with its number. Assumes nothing.
 use Rattle.std.specs.Prelude.{ℕ, List, [], ◌∷◌, length, Ok, Err, codes, slice_index, slice_index_or}
+use Rattle.statics.specs.declared.Refusal.TheVariants.{DeclaredTwice, WrongName, Misfit, NoValue}
 use Rattle.grammar.specs.Symbols.{NAME, INTEGER, BYTE, DATA, ENDDATA, ENDPROC, ENT, INT, PROC, REF, RETURN, LEFT, RIGHT, PLUS, SEMI, BECOMES}
 use Rattle.grammar.specs.declared.Symbol.{Symbol}
 use Rattle.grammar.specs.Sentences.{Made}
@@ -87,7 +88,7 @@ pub record Examples : Type 0 where
   pub unset_made : Made unset unset_symbols
   pub empty_module : (x : Text) → Static x (one blank) (Ok tt)
   pub counter_accepted : Static counter_text counter (Ok tt)
-  pub narrow_misfit : Static narrow_text narrow (Err (record { number = 11; place = 15 }))
-  pub used_early : Static early_text early (Err (record { number = 10; place = 16 }))
-  pub declared_twice : Static twice_text twice (Err (record { number = 9; place = 8 }))
-  pub without_value : Static twice_text unset (Err (record { number = 12; place = 5 }))
+  pub narrow_misfit : Static narrow_text narrow (Err (Misfit 15))
+  pub used_early : Static early_text early (Err (WrongName 16))
+  pub declared_twice : Static twice_text twice (Err (DeclaredTwice 8))
+  pub without_value : Static twice_text unset (Err (NoValue 5))

@@ -1,7 +1,8 @@
 -- The rules of expressions and conditions: what a form stands for, and what is wrong with it. Assumes nothing.
-use Rattle.std.specs.Prelude.{◌≡◌, ℕ, zero, suc, Bool, true, false, cond, ◌&&◌, List, [], ◌∷◌, length, Some, None, Option, nat_lt}
-use Rattle.grammar.specs.Trees.{Dyadic, times, divide, modulo, land, lor, nev, plus, minus, Monadic, positive, negative, absolute, complement, narrow, size, Expr, term, up, dyadic, Term, monadic, primary, Primary, integer, text, variable, call, call_on, paren, Variable, name, element, component, Exprs, first, comma, Comparator, equal, unequal, less, at_most, greater, at_least, same_place, other_place, Comparison, compare, Condition, Many, one, more}
-use Rattle.statics.specs.Modes.{int, byte, Mode, plain, ref, ref_record, ref_array, simple, INT, BYTE, Thing, value, Need, mode, number, reference, elements, components, Fits, subscript, referred_record}
+use Rattle.std.specs.Prelude.{◌≡◌, ℕ, suc, Bool, true, false, cond, ◌&&◌, List, [], length, Some, None, Option, slice_get, nat_lt}
+use Rattle.statics.specs.declared.Refusal.TheVariants.{WrongName, Misfit}
+use Rattle.grammar.specs.Trees.{Dyadic, land, lor, nev, Monadic, narrow, size, Expr, term, up, dyadic, Term, monadic, primary, Primary, integer, text, variable, call, call_on, paren, Variable, name, element, component, Exprs, first, comma, Comparator, equal, unequal, same_place, other_place, Comparison, compare, Condition, Many, one, more}
+use Rattle.statics.specs.Modes.{int, byte, Mode, plain, ref_array, simple, INT, BYTE, Thing, value, Need, mode, number, reference, elements, components, Fits, subscript, referred_record}
 use Rattle.statics.specs.Laws.{Wrongs, Never, Both, Under, Lacks, Clean, Pair}
 use Rattle.statics.specs.Scopes.{Env, Class, Signature, Head, thing, signature, Called, Stands, Runs, Heads, Selects}
 use Rattle.statics.specs.Fronts.{front, spot, spot_term, front_variable}
@@ -20,7 +21,7 @@ abbrev pub Gives : Form → Need → Mode → Type 0
 Gives x n = Pair x.has (Fits n)
 
 abbrev pub Off : Form → ℕ → Need → Wrongs
-Off x s n = Both x.wrong (Under x.has (λ t. Lacks (Fits n t) 11 s))
+Off x s n = Both x.wrong (Under x.has (λ t. Lacks (Fits n t) (Misfit s)))
 
 -- what stands for t
 abbrev pub fixed : Thing → Form
@@ -31,7 +32,7 @@ fixed t = record { has = λ u. u ≡ t; wrong = Never }
 abbrev pub named : {A B : Type 0} → Env → ℕ → (Class → A → Type 0) → Wrongs → (A → Rule B) → Rule B
 named Γ n P E x = record {
   has = Pair (Called Γ n P) (λ a. (x a).has);
-  wrong = Both (Lacks (Called Γ n P) 10 n) (Both E (Under (Called Γ n P) (λ a. (x a).wrong)));
+  wrong = Both (Lacks (Called Γ n P) (WrongName n)) (Both E (Under (Called Γ n P) (λ a. (x a).wrong)));
 }
 
 -- a base with a subscript
@@ -45,36 +46,25 @@ subscripted b s e z = record {
 abbrev pub selected : Env → Form → ℕ → ℕ → Form
 selected Γ b s c = record {
   has = Pair (Gives b components) (λ m. Selects Γ (referred_record m) c);
-  wrong = Both (Off b s components) (Under (Gives b components) (λ m. Lacks (Selects Γ (referred_record m) c) 10 c));
+  wrong = Both (Off b s components) (Under (Gives b components) (λ m. Lacks (Selects Γ (referred_record m) c) (WrongName c)));
 }
 
 -- INT for arithmetic; INT or BYTE for the logical operators, which give BYTE on two BYTEs
 abbrev pub operand : {n : ℕ} → Dyadic n → Need
-operand times = mode INT
-operand divide = mode INT
-operand modulo = mode INT
 operand land = number
 operand lor = number
 operand nev = number
-operand plus = mode INT
-operand minus = mode INT
+operand _ = mode INT
 
 abbrev pub is_byte : Mode → Bool
-is_byte (plain int) = false
 is_byte (plain byte) = true
-is_byte (ref k) = false
-is_byte (ref_record r) = false
-is_byte (ref_array e) = false
+is_byte _ = false
 
 abbrev pub result : {n : ℕ} → Dyadic n → Mode → Mode → Mode
-result times m k = INT
-result divide m k = INT
-result modulo m k = INT
 result land m k = cond (is_byte m && is_byte k) BYTE INT
 result lor m k = cond (is_byte m && is_byte k) BYTE INT
 result nev m k = cond (is_byte m && is_byte k) BYTE INT
-result plus m k = INT
-result minus m k = INT
+result _ m k = INT
 
 abbrev pub operated : {n : ℕ} → Dyadic n → Form → ℕ → Form → ℕ → Form
 operated o a s b z = record {
@@ -84,20 +74,12 @@ operated o a s b z = record {
 
 -- LENGTH takes an array or a reference to one, the others INT; BYTE gives BYTE, the others INT
 abbrev pub argument : Monadic → Need
-argument positive = mode INT
-argument negative = mode INT
-argument absolute = mode INT
-argument complement = mode INT
-argument narrow = mode INT
 argument size = elements
+argument _ = mode INT
 
 abbrev pub outcome : Monadic → Mode
-outcome positive = INT
-outcome negative = INT
-outcome absolute = INT
-outcome complement = INT
 outcome narrow = BYTE
-outcome size = INT
+outcome _ = INT
 
 abbrev pub altered : Monadic → Form → ℕ → Form
 altered o a s = record {
@@ -106,11 +88,6 @@ altered o a s = record {
 }
 
 -- The expressions of a call: one that has a parameter is brought to its mode, a further one to nothing.
-abbrev pub nth : {A : Type 0} → List A → ℕ → Option A
-nth [] k = None
-nth (m ∷ ms) zero = Some m
-nth (m ∷ ms) (suc k) = nth ms k
-
 abbrev pub passed : Form → ℕ → Option Mode → Wrongs
 passed x s None = x.wrong
 passed x s (Some m) = Off x s (mode m)
@@ -123,7 +100,7 @@ Suits s k R t = (k ≡ length s.takes) × R s.gives t
 abbrev pub applied : {B : Type 0} → ℕ → (List Mode → Wrongs) → ℕ → (Option Mode → B → Type 0) → Signature → Rule B
 applied n W k R s = record {
   has = Pair (Clean (W s.takes)) (λ u. Suits s k R);
-  wrong = Both (W s.takes) (Under (Clean (W s.takes)) (λ u. Lacks (Suits s k R) 11 n));
+  wrong = Both (W s.takes) (Under (Clean (W s.takes)) (λ u. Lacks (Suits s k R) (Misfit n)));
 }
 
 -- in an expression a call has a result
@@ -137,7 +114,7 @@ called Γ n W k R = named Γ n Runs (W []) (applied n W k R)
 -- A name with one expression in brackets: an element or a call, by what the name is.
 abbrev pub headed : ℕ → Form → ℕ → Head → Form
 headed n e z (thing t) = subscripted (fixed t) n e z
-headed n e z (signature s) = applied n (λ ms. passed e z (nth ms 0)) 1 Yields s
+headed n e z (signature s) = applied n (λ ms. passed e z (slice_get ms 0)) 1 Yields s
 
 abbrev pub bracketed : Env → Variable → Form → Form → ℕ → Form
 bracketed Γ (name n) b e z = named Γ n Heads e.wrong (headed n e z)
@@ -171,7 +148,7 @@ abbrev mutual
   a_primary Γ (text i) = fixed string_thing
   a_primary Γ (variable v) = a_use Γ v
   a_primary Γ (call n i) = called Γ n (λ ms. Never) 0 Yields
-  a_primary Γ (call_on n i es e) = called Γ n (λ ms. Both (args Γ ms es) (passed (expr Γ e) (spot e) (nth ms (count es)))) (suc (count es)) Yields
+  a_primary Γ (call_on n i es e) = called Γ n (λ ms. Both (args Γ ms es) (passed (expr Γ e) (spot e) (slice_get ms (count es)))) (suc (count es)) Yields
   a_primary Γ (paren i e) = expr Γ e
 
   -- a variable, or a call with one expression
@@ -186,29 +163,21 @@ abbrev mutual
   a_variable Γ (component v c) = selected Γ (a_variable Γ v) (front_variable v) c
 
   pub args : Env → List Mode → Exprs → Wrongs
-  args Γ ms (first e) = passed (expr Γ e) (spot e) (nth ms 0)
-  args Γ ms (comma es e) = Both (args Γ ms es) (passed (expr Γ e) (spot e) (nth ms (count es)))
+  args Γ ms (first e) = passed (expr Γ e) (spot e) (slice_get ms 0)
+  args Γ ms (comma es e) = Both (args Γ ms es) (passed (expr Γ e) (spot e) (slice_get ms (count es)))
 
 -- Comparisons: of INTs, of two BYTEs or else INTs, or of references of one mode.
 abbrev pub compared : Comparator → Need
 compared equal = number
 compared unequal = number
-compared less = mode INT
-compared at_most = mode INT
-compared greater = mode INT
-compared at_least = mode INT
 compared same_place = reference
 compared other_place = reference
+compared _ = mode INT
 
 abbrev pub Agree : Comparator → Mode → Mode → Type 0
-Agree equal m k = Unit {0}
-Agree unequal m k = Unit {0}
-Agree less m k = Unit {0}
-Agree at_most m k = Unit {0}
-Agree greater m k = Unit {0}
-Agree at_least m k = Unit {0}
 Agree same_place m k = m ≡ k
 Agree other_place m k = m ≡ k
+Agree _ m k = Unit {0}
 
 abbrev pub Operands : Form → Form → Need → Mode × Mode → Type 0
 Operands a b n mk = Gives a n mk.0 × Gives b n mk.1
@@ -216,7 +185,7 @@ Operands a b n mk = Gives a n mk.0 × Gives b n mk.1
 abbrev pub comparison : Env → Comparison → Wrongs
 comparison Γ (compare a o b) =
     Both (Both (Off (expr Γ a) (spot a) (compared o)) (Off (expr Γ b) (spot b) (compared o)))
-    (Under (Operands (expr Γ a) (expr Γ b) (compared o)) (λ mk. Lacks (λ (u : Unit {0}). Agree o mk.0 mk.1) 11 (front a)))
+    (Under (Operands (expr Γ a) (expr Γ b) (compared o)) (λ mk. Lacks (λ (u : Unit {0}). Agree o mk.0 mk.1) (Misfit (front a))))
 
 -- the wrongs of each of many
 abbrev pub each : {A : Type 0} → (A → Wrongs) → Many A → Wrongs

@@ -37,12 +37,8 @@ abbrev mutual
   spot_term (primary p) = spot_primary p
 
   pub spot_primary : Primary → ℕ
-  spot_primary (integer i) = i
-  spot_primary (text i) = i
-  spot_primary (variable v) = front_variable v
-  spot_primary (call n i) = n
-  spot_primary (call_on n i es e) = n
   spot_primary (paren i e) = spot e
+  spot_primary p = front_primary p
 
 abbrev pub front_destination : Destination → ℕ
 front_destination (tree.place v) = front_variable v

@@ -1,15 +1,17 @@
 -- The judging of blocks and statements as functions. Theorems says that it is right.
-use Rattle.std.specs.Prelude.{ℕ, length, Some, None, Ok, Option, Result}
+use Rattle.std.specs.Prelude.{ℕ, Bool, true, false, length, Some, None, Ok, Err, Option, Result, ok_or, option_and_then}
+use Rattle.std.specs.Bool.{then_some}
 use Rattle.statics.specs.declared.Refusal.{Refusal}
+use Rattle.statics.specs.declared.Refusal.TheVariants.{Misfit, NoValue}
 use Rattle.grammar.specs.Trees.{Expr, Variable, Exprs, Many, one, more, Init, given, Local, Locals, no_locals, locals, Destination, val, Body, body, Sequence, single, sequel, Statement, dummy, block, assign, invoke, invoke_on, branch, branch_else, repeat, loop, return, return_with, Arms, when, elsewhen}
 use Rattle.grammar.specs.Trees as tree
-use Rattle.statics.specs.Modes.{Mode, plain, ref, ref_record, ref_array, INT, Thing, mode}
+use Rattle.statics.specs.Modes.{Mode, plain, INT, Thing, mode}
 use Rattle.statics.specs.Scopes.{Env, after}
 use Rattle.statics.specs.Fronts.{spot, front_variable, front_destinations}
 use Rattle.statics.specs.Expressions.{count}
 use Rattle.statics.specs.Written.{mode_of, list_names}
 use Rattle.statics.specs.Statements.{entries, inside, ready_inside, aim, aimed}
-use Rattle.statics.specs.JudgeExpressions.{then, must, provided, bind, same_mode, bring, look, shapes, done, judge, judge_variable, judge_args, judge_call, judge_condition}
+use Rattle.statics.specs.JudgeExpressions.{then, check, same_mode, bring, look, shapes, done, judge, judge_variable, judge_args, judge_call, judge_condition}
 
 abbrev pub judge_record_name : Env → ℕ → Result (Unit {0}) Refusal
 judge_record_name Γ n = look Γ n shapes
@@ -29,17 +31,15 @@ abbrev mutual
   judge_element Γ (tree.records n) = judge_record_name Γ n
 
 abbrev pub judge_into : Option Mode → ℕ → Result Thing Refusal → ℕ → Result (Unit {0}) Refusal
-judge_into None p r s = then (then r done) (λ u. must 11 p None)
+judge_into None p r s = then (then r done) (λ u. Err (Misfit p))
 judge_into (Some m) p r s = then (bring (mode m) s r) done
 
-abbrev pub starts : Mode → Option (Unit {0})
-starts (plain k) = Some tt
-starts (ref k) = None
-starts (ref_record r) = None
-starts (ref_array e) = None
+abbrev pub is_plain : Mode → Bool
+is_plain (plain k) = true
+is_plain _ = false
 
 abbrev pub judge_local_item : Env → Mode → Init (Expr 5) → Result (Unit {0}) Refusal
-judge_local_item Γ m (tree.plain n) = must 12 n (starts m)
+judge_local_item Γ m (tree.plain n) = check (is_plain m) (NoValue n)
 judge_local_item Γ m (given ns e) = then (bring (mode m) (spot e) (judge Γ e)) done
 
 abbrev pub judge_local_items : Env → Mode → Many (Init (Expr 5)) → Result (Unit {0}) Refusal
@@ -54,7 +54,7 @@ judge_local_decs Γ no_locals = Ok tt
 judge_local_decs Γ (locals ls l) = then (judge_local_decs Γ ls) (λ u. judge_local_dec (after Γ (length (entries Γ.text ls))) l)
 
 abbrev pub join : Option Mode → Mode → Option Mode
-join a m = bind a (λ k. provided (same_mode k m) k)
+join a m = option_and_then (λ k. then_some (same_mode k m) k) a
 
 abbrev pub judge_target : Env → Destination → Result Mode Refusal
 judge_target Γ d = bring (aim d) (front_variable (aimed d)) (judge_variable Γ (aimed d))
@@ -85,7 +85,7 @@ abbrev mutual
   judge_statement Γ (branch_else ws s) = then (judge_arms Γ ws) (λ u. judge_sequence Γ s)
   judge_statement Γ (repeat e b) = then (then (bring (mode INT) (spot e) (judge Γ e)) done) (λ u. judge_body Γ b)
   judge_statement Γ (loop c s) = then (judge_condition Γ c) (λ u. judge_sequence Γ s)
-  judge_statement Γ (return i) = must 11 i (silent Γ.result)
+  judge_statement Γ (return i) = ok_or (silent Γ.result) (Misfit i)
   judge_statement Γ (return_with i j e) = judge_into Γ.result i (judge Γ e) (spot e)
 
   pub judge_arms : Env → Arms → Result (Unit {0}) Refusal

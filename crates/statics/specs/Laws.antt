@@ -1,33 +1,38 @@
 -- Wrongs, and how those of a construct are made of those of its parts. Assumes nothing.
-use Rattle.std.specs.Prelude.{◌≡◌, ℕ, ◌<◌, ◌⊎◌, List, [], ◌∷◌, Ok, Err, Result}
+use Rattle.std.specs.Prelude.{◌≡◌, ◌<◌, ◌⊎◌, List, [], ◌∷◌, Ok, Err, Result}
 use Rattle.statics.specs.declared.Refusal.{Refusal}
+use Rattle.statics.specs.Refusals.{place_of}
 
--- what is wrong: with which number, at which item
+-- what is wrong: which refusals hold
 abbrev pub Wrongs : Type 1
-Wrongs = ℕ → ℕ → Type 0
+Wrongs = Refusal → Type 0
 
--- nothing; the number k at q
+-- nothing; f
 abbrev pub Never : Wrongs
-Never n p = ⊥
+Never g = ⊥
 
-abbrev pub At : ℕ → ℕ → Wrongs
-At k q n p = (n ≡ k) × (p ≡ q)
+abbrev pub At : Refusal → Wrongs
+At f g = g ≡ f
 
 -- the wrongs of two parts
 abbrev pub Both : Wrongs → Wrongs → Wrongs
-Both W V n p = W n p ⊎ V n p
+Both W V f = W f ⊎ V f
 
 -- what is wrong where H holds of something
 abbrev pub Under : {A : Type 0} → (A → Type 0) → (A → Wrongs) → Wrongs
-Under {A} H V n p = (a : A) × H a × V a n p
+Under {A} H V f = (a : A) × H a × V a f
 
--- k at q, if K holds of nothing
-abbrev pub Lacks : {A : Type 0} → (A → Type 0) → ℕ → ℕ → Wrongs
-Lacks {A} K k q n p = ((a : A) → K a → ⊥) × At k q n p
+-- f, if K holds of nothing
+abbrev pub Lacks : {A : Type 0} → (A → Type 0) → Refusal → Wrongs
+Lacks {A} K f g = ((a : A) → K a → ⊥) × At f g
+
+-- k a for each a of which P holds
+abbrev pub Wherever : {A : Type 0} → (A → Refusal) → (A → Type 0) → Wrongs
+Wherever {A} k P f = (a : A) × P a × At (k a) f
 
 -- nothing is wrong
 abbrev pub Clean : Wrongs → Unit {0} → Type 0
-Clean W u = (n p : ℕ) → W n p → ⊥
+Clean W u = (f : Refusal) → W f → ⊥
 
 -- H holds of something of which K then says b
 abbrev pub Pair : {A B : Type 0} → (A → Type 0) → (A → B → Type 0) → B → Type 0
@@ -38,11 +43,11 @@ abbrev pub Any : {A : Type 0} → (A → Type 0) → List A → Type 0
 Any P [] = ⊥
 Any P (a ∷ rest) = P a ⊎ Any P rest
 
--- THE LAW. The refusal stands at the only wrong of its place, and every other is further on.
+-- THE LAW. The refusal is the only wrong at its place, and every other is further on.
 abbrev pub Earliest : Wrongs → Refusal → Type 0
-Earliest W f = W f.number f.place × ((n p : ℕ) → W n p → (f.place < p) ⊎ ((f.place ≡ p) × (f.number ≡ n)))
+Earliest W f = W f × ((g : Refusal) → W g → (place_of f < place_of g) ⊎ At f g)
 
 -- The verdict on something: H says what holds of what is accepted, W what is wrong.
 abbrev pub Verdict : {A : Type 0} → (A → Type 0) → Wrongs → Result A Refusal → Type 0
-Verdict H W (Ok a) = H a × ((n p : ℕ) → W n p → ⊥)
+Verdict H W (Ok a) = H a × Clean W tt
 Verdict H W (Err f) = Earliest W f

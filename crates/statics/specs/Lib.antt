@@ -1,3 +1,4 @@
+pub mod Refusals
 pub mod Modes
 pub mod Laws
 pub mod Scopes
@@ -12,6 +13,7 @@ pub mod Modules
 pub mod JudgeModules
 pub mod Order
 pub mod Theorems
+pub mod Blocks
 pub mod DeclaredTwice
 pub mod Space
 pub mod Crowds

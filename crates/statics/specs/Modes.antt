@@ -45,9 +45,7 @@ pub data Widens : Plain → Plain → Type 0 where
 -- A reference: REF of something.
 abbrev pub Reference : Mode → Type 0
 Reference (plain k) = ⊥
-Reference (ref k) = Unit {0}
-Reference (ref_record r) = Unit {0}
-Reference (ref_array e) = Unit {0}
+Reference _ = Unit {0}
 
 -- What an environment requires: a mode; INT or BYTE; some reference; an array or a reference to one; a record or a reference to one;
 -- a place to store into; behind VAL, a place that refers to one of a plain mode.
@@ -84,13 +82,9 @@ element_thing (records r) = structure r
 
 -- the element of what REF ARRAY refers to; the record mode that REF refers to
 abbrev pub subscript : Mode → Thing
-subscript (plain k) = value (plain k)
-subscript (ref k) = value (ref k)
-subscript (ref_record r) = value (ref_record r)
 subscript (ref_array e) = element_thing e
+subscript m = value m
 
 abbrev pub referred_record : Mode → Word
-referred_record (plain k) = []
-referred_record (ref k) = []
 referred_record (ref_record r) = r
-referred_record (ref_array e) = []
+referred_record _ = []

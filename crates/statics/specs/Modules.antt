@@ -1,5 +1,6 @@
 -- The rules of module items, and the names of a module. Assumes nothing.
 use Rattle.std.specs.Prelude.{◌≡◌, ℕ, ◌+◌, true, ◌⊎◌, List, [], ◌∷◌, ◌++◌, map, length, Some, None, codes, Option}
+use Rattle.statics.specs.declared.Refusal.TheVariants.{WrongName, NoValue}
 use Rattle.grammar.specs.Trees.{Many, one, more, Opt, Fields, also, Init, given, Value, Dec, variables, arrays, structures, Locals, Body, body, Brick, store, procedure, Moditem, blank, external_procs, external_store, own, entry, Module}
 use Rattle.grammar.specs.Trees as tree
 use Rattle.statics.specs.Modes.{Word, Mode, INT, BYTE, place, array, structure}
@@ -60,12 +61,8 @@ moditem_names x (own b) = brick_names x b
 moditem_names x (entry b) = brick_names x b
 
 abbrev pub moditem_parts : Text → Moditem → List Component
-moditem_parts x blank = []
-moditem_parts x (external_procs i ms m ns) = []
-moditem_parts x (external_store n ds) = []
 moditem_parts x (tree.record_mode n i fs) = map (λ f. record { owner = x.word n; word = x.word f.item; mode = f.mode }) (fields x fs)
-moditem_parts x (own b) = []
-moditem_parts x (entry b) = []
+moditem_parts x _ = []
 
 -- all names of a module are declared before any construct is judged
 abbrev pub module_env : Text → Module → Env
@@ -78,22 +75,15 @@ module_env x m = record {
 }
 
 -- Module items.
-abbrev pub maybe_written : Env → Opt tree.Mode → Wrongs
-maybe_written Γ tree.none = Never
-maybe_written Γ (tree.some m) = written Γ m
-
-abbrev pub modes_written : Env → Opt (Many tree.Mode) → Wrongs
-modes_written Γ tree.none = Never
-modes_written Γ (tree.some ms) = each (written Γ) ms
+-- the wrongs of what may be missing
+abbrev pub optional : {A : Type 0} → (A → Wrongs) → Opt A → Wrongs
+optional W tree.none = Never
+optional W (tree.some a) = W a
 
 abbrev pub fields_written : Env → Fields → Wrongs
 fields_written Γ (tree.field m n) = written Γ m
 fields_written Γ (also fs n) = fields_written Γ fs
 fields_written Γ (tree.next fs m n) = Both (fields_written Γ fs) (written Γ m)
-
-abbrev pub parameters_written : Env → Opt Fields → Wrongs
-parameters_written Γ tree.none = Never
-parameters_written Γ (tree.some fs) = fields_written Γ fs
 
 -- the only EXT descriptions
 abbrev pub Admitted : Word → Signature → Unit {0} → Type 0
@@ -101,7 +91,7 @@ Admitted w s u =
     ((w ≡ codes "INBYTE") × (s.takes ≡ []) × (s.gives ≡ Some INT)) ⊎ ((w ≡ codes "OUTBYTE") × (s.takes ≡ BYTE ∷ []) × (s.gives ≡ None))
 
 abbrev pub data_item : Env → Want → Init Value → Wrongs
-data_item Γ w (tree.plain n) = Lacks (Valueless Γ w) 12 n
+data_item Γ w (tree.plain n) = Lacks (Valueless Γ w) (NoValue n)
 data_item Γ w (given ns v) = initial Γ w v
 
 abbrev pub data_dec : Env → Dec (Many (Init Value)) → Wrongs
@@ -130,17 +120,17 @@ outermost Γ (body ls s) = inside Γ ls
 abbrev pub a_brick : Env → Brick → Wrongs
 a_brick Γ (store n ds) = each (data_dec Γ) ds
 a_brick Γ (procedure n i ps m b e) =
-    Both (parameters_written (outermost (in_procedure Γ ps m) b) ps) (Both (maybe_written Γ m) (a_body (in_procedure Γ ps m) b))
+    Both (optional (fields_written (outermost (in_procedure Γ ps m) b)) ps) (Both (optional (written Γ) m) (a_body (in_procedure Γ ps m) b))
 
 abbrev pub moditem : Env → Moditem → Wrongs
 moditem Γ blank = Never
 moditem Γ (external_procs i ms m ns) =
-    Both (modes_written Γ ms) (Both (maybe_written Γ m) (each (λ n. Lacks (Admitted (Γ.text.word n) (record { takes = modes Γ.text ms; gives = maybe_mode Γ.text m })) 10 n) ns))
-moditem Γ (external_store n ds) = At 10 n
+    Both (optional (each (written Γ)) ms) (Both (optional (written Γ) m) (each (λ n. Lacks (Admitted (Γ.text.word n) (record { takes = modes Γ.text ms; gives = maybe_mode Γ.text m })) (WrongName n)) ns))
+moditem Γ (external_store n ds) = At (WrongName n)
 moditem Γ (tree.record_mode n i fs) = fields_written (in_record Γ fs) fs
 moditem Γ (own b) = a_brick Γ b
 moditem Γ (entry b) = a_brick Γ b
 
--- THE WRONGS of a module, with the numbers 10, 11 and 12.
+-- THE WRONGS of a module: names, misfits and references without a value.
 abbrev pub module_wrongs : Text → Module → Wrongs
 module_wrongs x m = each (moditem (module_env x m)) m

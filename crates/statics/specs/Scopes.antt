@@ -1,13 +1,11 @@
 -- What a name means. Assumes nothing.
-use Rattle.std.specs.Prelude.{◌≡◌, ℕ, ◌+◌, ◌<◌, Bool, true, false, cond, ◌&&◌, List, [], ◌∷◌, ◌++◌, length, get_or, Option, ◌==◌, slice_index_or}
+use Rattle.std.specs.Prelude.{◌≡◌, ℕ, ◌+◌, ◌<◌, Bool, true, false, List, [], ◌++◌, map, filter, length, get_or, Option, slice_index_or}
+use Rattle.std.specs.Str.{bytes_eq}
 use Rattle.statics.specs.Modes.{Word, Mode, INT, Thing, place}
 
 -- whether two words are the same
 abbrev pub same_word : Word → Word → Bool
-same_word [] [] = true
-same_word [] (b ∷ w) = false
-same_word (a ∷ v) [] = false
-same_word (a ∷ v) (b ∷ w) = a == b && same_word v w
+same_word = bytes_eq
 
 -- What items of the text stand for: a name's word, an integer's value, the number of a string's bytes.
 pub record Text : Type 0 where
@@ -69,36 +67,21 @@ Called Γ n P a = (i : ℕ) × Means Γ n i × P (class_at Γ i) a
 
 -- What the name of a variable stands for; of a data variable; what a procedure's name has; whether it is a record mode's.
 abbrev pub Stands : Class → Thing → Type 0
-Stands record_mode u = ⊥
-Stands brick u = ⊥
 Stands (stored t) u = u ≡ t
 Stands (local m) u = u ≡ place false m
-Stands (routine s) u = ⊥
-Stands part u = ⊥
+Stands _ u = ⊥
 
 abbrev pub Keeps : Class → Thing → Type 0
-Keeps record_mode u = ⊥
-Keeps brick u = ⊥
 Keeps (stored t) u = u ≡ t
-Keeps (local m) u = ⊥
-Keeps (routine s) u = ⊥
-Keeps part u = ⊥
+Keeps _ u = ⊥
 
 abbrev pub Runs : Class → Signature → Type 0
-Runs record_mode u = ⊥
-Runs brick u = ⊥
-Runs (stored t) u = ⊥
-Runs (local m) u = ⊥
 Runs (routine s) u = u ≡ s
-Runs part u = ⊥
+Runs _ u = ⊥
 
 abbrev pub Shapes : Class → Unit {0} → Type 0
 Shapes record_mode u = Unit {0}
-Shapes brick u = ⊥
-Shapes (stored t) u = ⊥
-Shapes (local m) u = ⊥
-Shapes (routine s) u = ⊥
-Shapes part u = ⊥
+Shapes _ u = ⊥
 
 -- before brackets with one expression: a variable or a procedure
 pub data Head : Type 0 where
@@ -121,8 +104,7 @@ Belongs Γ r w i = ((component_at Γ i).owner ≡ r) × ((component_at Γ i).wor
 
 -- the modes of the components of the record mode r, in their order
 abbrev pub record_modes : List Component → Word → List Mode
-record_modes [] r = []
-record_modes (c ∷ cs) r = cond (same_word c.owner r) (c.mode ∷ record_modes cs r) (record_modes cs r)
+record_modes cs r = map (λ c. c.mode) (filter (λ c. same_word c.owner r) cs)
 
 -- the component of the record mode r that has the name at n, as a place
 abbrev pub Selects : Env → Word → ℕ → Thing → Type 0

@@ -1,9 +1,10 @@
--- The places of data and strings: 13. Assumes nothing.
+-- The places of data and strings. Assumes nothing.
 use Rattle.std.specs.Prelude.{◌≡◌, ℕ, ◌+◌, ◌*◌, ◌<◌, ◌≤◌, ◌⊎◌, List, [], ◌∷◌, ◌++◌, map, length}
+use Rattle.statics.specs.declared.Refusal.TheVariants.{TooManyPlaces}
 use Rattle.grammar.specs.Trees.{Expr, term, up, dyadic, Term, monadic, primary, Primary, integer, text, variable, call, call_on, paren, Variable, name, element, component, Exprs, first, comma, Comparison, compare, Many, Init, given, Locals, no_locals, locals, Destination, val, Body, body, Sequence, single, sequel, Statement, dummy, block, assign, invoke, invoke_on, branch, branch_else, repeat, loop, return, return_with, Arms, when, elsewhen, Value, constant, signed, minus_signed, identifier, string, empty_list, list, Values, only, and, Entry, once, repeated, Dec, variables, arrays, structures, Brick, store, procedure, Moditem, blank, external_procs, external_store, own, entry, Module}
 use Rattle.grammar.specs.Trees as tree
 use Rattle.statics.specs.Modes.{Element, simple, records}
-use Rattle.statics.specs.Laws.{Wrongs}
+use Rattle.statics.specs.Laws.{Wrongs, Wherever}
 use Rattle.statics.specs.Scopes.{Text, Component, record_modes}
 use Rattle.statics.specs.Written.{mode_of, element_of, gather, item_names}
 use Rattle.statics.specs.Values.{Want, free, simply, several, recorded}
@@ -21,12 +22,11 @@ abbrev mutual
   term_strings (primary p) = primary_strings p
 
   pub primary_strings : Primary → List ℕ
-  primary_strings (integer i) = []
   primary_strings (text i) = i ∷ []
   primary_strings (variable v) = variable_strings v
-  primary_strings (call n i) = []
   primary_strings (call_on n i es e) = exprs_strings es ++ expr_strings e
   primary_strings (paren i e) = expr_strings e
+  primary_strings _ = []
 
   pub variable_strings : Variable → List ℕ
   variable_strings (name n) = []
@@ -64,17 +64,15 @@ abbrev mutual
   sequence_strings (sequel ss s) = sequence_strings ss ++ statement_strings s
 
   pub statement_strings : Statement → List ℕ
-  statement_strings dummy = []
   statement_strings (block b) = body_strings b
   statement_strings (assign ds e) = gather destination_strings ds ++ expr_strings e
-  statement_strings (invoke n i) = []
   statement_strings (invoke_on n i es) = exprs_strings es
   statement_strings (branch ws) = arms_strings ws
   statement_strings (branch_else ws s) = arms_strings ws ++ sequence_strings s
   statement_strings (repeat e b) = expr_strings e ++ body_strings b
   statement_strings (loop c s) = condition_strings c ++ sequence_strings s
-  statement_strings (return i) = []
   statement_strings (return_with i j e) = expr_strings e
+  statement_strings _ = []
 
   pub arms_strings : Arms → List ℕ
   arms_strings (when c s) = condition_strings c ++ sequence_strings s
@@ -82,13 +80,9 @@ abbrev mutual
 
 abbrev mutual
   pub value_strings : Value → List ℕ
-  value_strings (constant i) = []
-  value_strings (signed s i) = []
-  value_strings (minus_signed s i) = []
-  value_strings (identifier n) = []
   value_strings (string i) = i ∷ []
-  value_strings (empty_list i) = []
   value_strings (list i vs) = values_strings vs
+  value_strings _ = []
 
   pub values_strings : Values → List ℕ
   values_strings (only e) = entry_strings e
@@ -135,12 +129,9 @@ brick_charges x cs (store n ds) = gather (dec_charges x cs) ds
 brick_charges x cs (procedure n i ps m b e) = string_charges x (body_strings b)
 
 abbrev pub moditem_charges : Text → List Component → Moditem → List Charge
-moditem_charges x cs blank = []
-moditem_charges x cs (external_procs i ms m ns) = []
-moditem_charges x cs (external_store n ds) = []
-moditem_charges x cs (tree.record_mode n i fs) = []
 moditem_charges x cs (own b) = brick_charges x cs b
 moditem_charges x cs (entry b) = brick_charges x cs b
+moditem_charges x cs _ = []
 
 -- all of a module, in the order of the text
 abbrev pub charges : Text → Module → List Charge
@@ -152,4 +143,4 @@ Passes limit used [] p = ⊥
 Passes limit used (c ∷ cs) p = ((limit < used + c.amount) × (p ≡ c.item)) ⊎ ((used + c.amount ≤ limit) × Passes limit (used + c.amount) cs p)
 
 abbrev pub space_wrongs : Text → Module → Wrongs
-space_wrongs x m n p = (n ≡ 13) × Passes 4096 0 (charges x m) p
+space_wrongs x m = Wherever TooManyPlaces (Passes 4096 0 (charges x m))

@@ -2,7 +2,8 @@
 use Rattle.std.specs.Prelude.{◌≡◌, ℕ, ◌⊎◌, List, [], ◌∷◌, Ok, Err, Result}
 use Rattle.statics.specs.declared.Refusal.{Refusal}
 use Rattle.grammar.specs.Trees.{Module}
-use Rattle.statics.specs.Laws.{Wrongs, Clean, Earliest}
+use Rattle.statics.specs.Refusals.{shift}
+use Rattle.statics.specs.Laws.{Wrongs, Wherever, Clean, Earliest}
 use Rattle.statics.specs.Scopes.{Text}
 use Rattle.statics.specs.Modules.{module_wrongs}
 use Rattle.statics.specs.DeclaredTwice.{twice_wrongs}
@@ -14,7 +15,7 @@ abbrev pub Staged : List Wrongs → Result (Unit {0}) Refusal → Type 0
 Staged [] r = r ≡ Ok tt
 Staged (W ∷ rest) r = ((f : Refusal) × Earliest W f × (r ≡ Err f)) ⊎ (Clean W tt × Staged rest r)
 
--- THE STATIC VERDICT on a module: 9, then 10 to 12, then 13, then 14.
+-- THE STATIC VERDICT on a module: declared twice; then names, misfits and references without a value; then too many places; then too many locals.
 abbrev pub stages : Text → Module → List Wrongs
 stages x m = twice_wrongs x m ∷ module_wrongs x m ∷ space_wrongs x m ∷ locals_wrongs x m ∷ []
 
@@ -23,7 +24,7 @@ Static x m = Staged (stages x m)
 
 -- The same with other places: g p for the item p, as the byte at which it begins.
 abbrev pub Moved : (ℕ → ℕ) → Wrongs → Wrongs
-Moved g W n q = (p : ℕ) × W n p × (q ≡ g p)
+Moved g W = Wherever (shift g) W
 
 abbrev pub all_moved : (ℕ → ℕ) → List Wrongs → List Wrongs
 all_moved g [] = []
@@ -31,4 +32,4 @@ all_moved g (W ∷ rest) = Moved g W ∷ all_moved g rest
 
 abbrev pub moved : (ℕ → ℕ) → Result (Unit {0}) Refusal → Result (Unit {0}) Refusal
 moved g (Ok u) = Ok u
-moved g (Err f) = Err (record { number = f.number; place = g f.place })
+moved g (Err f) = Err (shift g f)

@@ -1,8 +1,9 @@
 -- The rules of blocks and statements. Assumes nothing.
 use Rattle.std.specs.Prelude.{◌≡◌, ℕ, ◌⊎◌, List, [], ◌++◌, map, length, Some, None, Option, ◌≢◌}
+use Rattle.statics.specs.declared.Refusal.TheVariants.{Misfit, NoValue}
 use Rattle.grammar.specs.Trees.{Expr, Variable, Exprs, Many, one, more, Init, given, Local, Locals, no_locals, locals, Destination, val, Body, body, Sequence, single, sequel, Statement, dummy, block, assign, invoke, invoke_on, branch, branch_else, repeat, loop, return, return_with, Arms, when, elsewhen}
 use Rattle.grammar.specs.Trees as tree
-use Rattle.statics.specs.Modes.{Mode, plain, ref, ref_record, ref_array, INT, Need, mode, scalar, pointed}
+use Rattle.statics.specs.Modes.{Mode, plain, INT, Need, mode, scalar, pointed}
 use Rattle.statics.specs.Laws.{Wrongs, Never, At, Both, Under, Lacks, Clean}
 use Rattle.statics.specs.Scopes.{Text, Env, local, after, inside_of}
 use Rattle.statics.specs.Fronts.{spot, front_variable, front_destinations}
@@ -11,19 +12,17 @@ use Rattle.statics.specs.Written.{mode_of, written, list_names, Site, site, decl
 
 -- An expression brought to a mode; where there is none, it has no environment, and then the construct is a misfit at p.
 abbrev pub into : Option Mode → ℕ → Form → ℕ → Wrongs
-into None p x s = Both x.wrong (Under (Clean x.wrong) (λ u. At 11 p))
+into None p x s = Both x.wrong (Under (Clean x.wrong) (λ u. At (Misfit p)))
 into (Some m) p x s = Off x s (mode m)
 
--- A local without a value: 12 unless its mode is plain.
+-- A local without a value: wrong unless its mode is plain.
 abbrev pub Starts : Mode → Unit {0} → Type 0
 Starts (plain k) u = Unit {0}
-Starts (ref k) u = ⊥
-Starts (ref_record r) u = ⊥
-Starts (ref_array e) u = ⊥
+Starts _ u = ⊥
 
 -- A list item; before its value none of its names can be used, nor those behind it.
 abbrev pub local_item : Env → Mode → Init (Expr 5) → Wrongs
-local_item Γ m (tree.plain n) = Lacks (Starts m) 12 n
+local_item Γ m (tree.plain n) = Lacks (Starts m) (NoValue n)
 local_item Γ m (given ns e) = Off (expr Γ e) (spot e) (mode m)
 
 abbrev pub local_items : Env → Mode → Many (Init (Expr 5)) → Wrongs
@@ -99,7 +98,7 @@ abbrev mutual
   statement Γ (branch_else ws s) = Both (arms Γ ws) (sequence Γ s)
   statement Γ (repeat e b) = Both (Off (expr Γ e) (spot e) (mode INT)) (a_body Γ b)
   statement Γ (loop c s) = Both (condition Γ c) (sequence Γ s)
-  statement Γ (return i) = Lacks (Silent Γ.result) 11 i
+  statement Γ (return i) = Lacks (Silent Γ.result) (Misfit i)
   statement Γ (return_with i j e) = into Γ.result i (expr Γ e) (spot e)
 
   pub arms : Env → Arms → Wrongs

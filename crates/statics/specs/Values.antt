@@ -1,10 +1,11 @@
 -- The rules of initial values in a data brick. Assumes nothing.
-use Rattle.std.specs.Prelude.{◌≡◌, ℕ, suc, ◌+◌, ◌<◌, Bool, true, false, ◌⊎◌, List, [], ◌∷◌, length, Some, None, Option}
+use Rattle.std.specs.Prelude.{◌≡◌, ℕ, suc, ◌+◌, ◌<◌, Bool, true, false, ◌⊎◌, List, [], ◌∷◌, length, Some, None, Option, slice_get}
+use Rattle.statics.specs.declared.Refusal.{Refusal}
+use Rattle.statics.specs.declared.Refusal.TheVariants.{WrongName, Misfit}
 use Rattle.grammar.specs.Trees.{Value, constant, signed, minus_signed, identifier, string, empty_list, list, Values, only, and, Entry, once, repeated}
-use Rattle.statics.specs.Modes.{Word, int, byte, Mode, plain, ref, ref_record, ref_array, Element, simple, records, BYTE, Thing, value, place, array, structure}
+use Rattle.statics.specs.Modes.{Word, int, byte, Mode, plain, ref, ref_record, ref_array, Element, simple, records, BYTE, Thing, place, array, structure}
 use Rattle.statics.specs.Laws.{Wrongs, Both, Under, Lacks, Clean}
 use Rattle.statics.specs.Scopes.{Env, Called, Keeps, record_modes}
-use Rattle.statics.specs.Expressions.{nth}
 use Rattle.statics.specs.Statements.{Starts}
 
 -- What a value is to be put into: nothing in particular; a place of a mode; an array of so many elements; a record.
@@ -24,38 +25,29 @@ component_want None = free
 component_want (Some m) = simply m
 
 abbrev pub inner : Env → Want → ℕ → Want
-inner Γ free k = free
-inner Γ (simply m) k = free
 inner Γ (several n e) k = element_want e
-inner Γ (recorded r) k = component_want (nth (record_modes Γ.parts r) k)
+inner Γ (recorded r) k = component_want (slice_get (record_modes Γ.parts r) k)
+inner Γ _ k = free
 
 -- An integer: for INT any, for BYTE one up to 255 without a sign.
 abbrev pub TakesInteger : Want → Bool → ℕ → Unit {0} → Type 0
 TakesInteger free s v u = Unit {0}
 TakesInteger (simply (plain int)) s v u = Unit {0}
 TakesInteger (simply (plain byte)) s v u = (s ≡ false) × (v < 256)
-TakesInteger (simply (ref k)) s v u = ⊥
-TakesInteger (simply (ref_record r)) s v u = ⊥
-TakesInteger (simply (ref_array e)) s v u = ⊥
-TakesInteger (several n e) s v u = ⊥
-TakesInteger (recorded r) s v u = ⊥
+TakesInteger _ s v u = ⊥
 
 -- the mode of a reference to what a data variable's name stands for
 abbrev pub address_mode : Thing → Option Mode
-address_mode (value m) = None
 address_mode (place b (plain k)) = Some (ref k)
-address_mode (place b (ref k)) = None
-address_mode (place b (ref_record r)) = None
-address_mode (place b (ref_array e)) = None
 address_mode (array e) = Some (ref_array e)
 address_mode (structure r) = Some (ref_record r)
+address_mode _ = None
 
 -- A name gives its address, never its contents.
 abbrev pub TakesName : Want → Thing → Unit {0} → Type 0
 TakesName free t u = Unit {0}
 TakesName (simply m) t u = address_mode t ≡ Some m
-TakesName (several n e) t u = ⊥
-TakesName (recorded r) t u = ⊥
+TakesName _ t u = ⊥
 
 -- A string: for REF ARRAY BYTE, or for an array of exactly as many BYTEs.
 abbrev pub TakesString : Want → ℕ → Unit {0} → Type 0
@@ -73,10 +65,8 @@ TakesList Γ (recorded r) k n u = k ≡ length (record_modes Γ.parts r)
 
 -- In a record's list no value is repeated.
 abbrev pub Repeats : Want → Unit {0} → Type 0
-Repeats free u = Unit {0}
-Repeats (simply m) u = Unit {0}
-Repeats (several n e) u = Unit {0}
 Repeats (recorded r) u = ⊥
+Repeats _ u = Unit {0}
 
 abbrev pub times : (ℕ → ℕ) → Entry → ℕ
 times f (once v) = 1
@@ -99,19 +89,19 @@ front_value (string i) = i
 front_value (empty_list i) = i
 front_value (list i vs) = i
 
--- if nothing of W is wrong, K is asked for: k at p
-abbrev pub ThenAsk : Wrongs → (Unit {0} → Type 0) → ℕ → ℕ → Wrongs
-ThenAsk W K k p = Both W (Under (Clean W) (λ u. Lacks K k p))
+-- if nothing of W is wrong, K is asked for: else f
+abbrev pub ThenAsk : Wrongs → (Unit {0} → Type 0) → Refusal → Wrongs
+ThenAsk W K f = Both W (Under (Clean W) (λ u. Lacks K f))
 
 abbrev mutual
   pub initial : Env → Want → Value → Wrongs
-  initial Γ w (constant i) = Lacks (TakesInteger w false (Γ.text.value i)) 11 i
-  initial Γ w (signed s i) = Lacks (TakesInteger w true (Γ.text.value i)) 11 s
-  initial Γ w (minus_signed s i) = Lacks (TakesInteger w true (Γ.text.value i)) 11 s
-  initial Γ w (identifier n) = Both (Lacks (Called Γ n Keeps) 10 n) (Under (Called Γ n Keeps) (λ t. Lacks (TakesName w t) 11 n))
-  initial Γ w (string i) = Lacks (TakesString w (Γ.text.size i)) 11 i
-  initial Γ w (empty_list i) = Lacks (TakesList Γ w 0 0) 11 i
-  initial Γ w (list i vs) = ThenAsk (listed Γ w vs) (TakesList Γ w (how_many vs) (total Γ.text.value vs)) 11 i
+  initial Γ w (constant i) = Lacks (TakesInteger w false (Γ.text.value i)) (Misfit i)
+  initial Γ w (signed s i) = Lacks (TakesInteger w true (Γ.text.value i)) (Misfit s)
+  initial Γ w (minus_signed s i) = Lacks (TakesInteger w true (Γ.text.value i)) (Misfit s)
+  initial Γ w (identifier n) = Both (Lacks (Called Γ n Keeps) (WrongName n)) (Under (Called Γ n Keeps) (λ t. Lacks (TakesName w t) (Misfit n)))
+  initial Γ w (string i) = Lacks (TakesString w (Γ.text.size i)) (Misfit i)
+  initial Γ w (empty_list i) = Lacks (TakesList Γ w 0 0) (Misfit i)
+  initial Γ w (list i vs) = ThenAsk (listed Γ w vs) (TakesList Γ w (how_many vs) (total Γ.text.value vs)) (Misfit i)
 
   pub listed : Env → Want → Values → Wrongs
   listed Γ w (only e) = an_entry Γ w 0 e
@@ -119,7 +109,7 @@ abbrev mutual
 
   pub an_entry : Env → Want → ℕ → Entry → Wrongs
   an_entry Γ w k (once v) = initial Γ (inner Γ w k) v
-  an_entry Γ w k (repeated v i n) = ThenAsk (initial Γ (inner Γ w k) v) (Repeats w) 11 (front_value v)
+  an_entry Γ w k (repeated v i n) = ThenAsk (initial Γ (inner Γ w k) v) (Repeats w) (Misfit (front_value v))
 
 -- Without a value: no REF place in it.
 abbrev pub AllStart : List Mode → Unit {0} → Type 0

@@ -1,5 +1,6 @@
 -- Written modes, what they mean, and what is wrong with them. Assumes nothing.
 use Rattle.std.specs.Prelude.{ℕ, List, [], ◌∷◌, ◌++◌, map}
+use Rattle.statics.specs.declared.Refusal.TheVariants.{WrongName}
 use Rattle.grammar.specs.Trees.{Many, one, more, Init, given}
 use Rattle.grammar.specs.Trees as tree
 use Rattle.statics.specs.Modes.{int, byte, Mode, plain, ref, ref_record, ref_array, Element, simple, records}
@@ -23,7 +24,7 @@ abbrev mutual
 
 -- a name in a mode must be that of a record mode
 abbrev pub record_name : Env → ℕ → Wrongs
-record_name Γ n = Lacks (Called Γ n Shapes) 10 n
+record_name Γ n = Lacks (Called Γ n Shapes) (WrongName n)
 
 abbrev mutual
   pub written : Env → tree.Mode → Wrongs
