@@ -20,6 +20,7 @@ fn page_bytes(rt: &HostRuntime) -> anyhow::Result<usize> {
 
 /// Logs one entry and says what became of it.
 fn record(rt: &HostRuntime, log: &mut PageLogger, line: u64, entry: Entry) -> anyhow::Result<()> {
+    // No `Display` of a `Refusal`: the words name the page and the gate, of which it knows nothing.
     match log.record(entry) {
         Ok(()) => println!(rt; "recorded {entry}: {log}")?,
         Err(Refusal::NoSpace) => println!(rt; "line {line}: page full")?,
