@@ -1,17 +1,17 @@
 use Rattle.std.proofs.Common.{◌≡◌, ℕ, zero, suc, ◌+◌, ◌-◌, ◌*◌, ◌/◌, ◌<◌, ◌≤◌, List, [], ◌∷◌, ◌++◌, length, get_or, take, drop, pos, Some, sym, refl, ap, ◌∙◌, subst, add-one, arith, length-append, rules}
 use native.Mathlib.Numerals.{unary_clauses}
-use Rattle.std.proofs.lemmas.List.{drop-drop, take-append-le, drop-append-le, length-drop, take_more, take_all, flat_map_more}
-use Rattle.std.proofs.ByRecursion.{All-get_or, All-push}
+use Rattle.std.proofs.lemmas.List.{drop-drop, take-append-le, drop-append-le, length-drop, take_more, take_all}
+use Rattle.std.proofs.ByRecursion.{All-get_or}
 use Rattle.std.specs.List.{flat_map, AllByRecursion}
 use Rattle.std.specs.Option.{option_to_list}
-use Rattle.streams.specs.Recorders.{Meaning, State, Kept, Arrive, empty}
-use Rattle.streams.specs.History.{History, begun, Recorded, Closed}
+use Rattle.streams.specs.Recorders.{Meaning, State, Kept, empty}
+use Rattle.streams.specs.History.{begun, Closed}
 use Rattle.streams.proofs.Laws.{nothing_lost}
 use Rattle.gatelog.specs.declared.entries.Entry.{Entry}
 use Rattle.gatelog.specs.declared.positions.Positions.{Positions}
 use Rattle.gatelog.specs.Entries.{Valid, encoded, decoded}
 use Rattle.gatelog.specs.Restored.{record_at, entries_in, entries, Stands}
-use Rattle.gatelog.specs.Logged.{Accepted, Logged}
+use Rattle.gatelog.specs.Logged.{Accepted}
 
 none : Entry
 none = record { gate = 0; position = pos 0 }
@@ -77,25 +77,6 @@ entries_closed n es s t a c =
     let l : length t.written ≡ 6 * length es = ap length w ∙ length_records es in
     entries_written n es t (record { valid = a.valid; history = since.0 }) ∙ take_all (length t.written / 6) es (omega arith)
 
--- a record for which there is space is logged whole
-pub logged :
-    (e : Entry) (bytes : List ℕ) (n : ℕ) (s t : Meaning)
-    → bytes ≡ encoded e
-    → Valid e
-    → 6 ≤ s.space
-    → Recorded bytes n s t
-    → Logged e s t
-logged e bytes n s t b v l r =
-    let six : length bytes ≡ 6 = ap length b in
-    let a : take n bytes ≡ encoded e = take_all n bytes (omega (arith, r.count)) ∙ b in
-    record {
-      valid = v;
-      arrives = subst (λ (x : List ℕ). Arrive x s t) a r.arrives;
-      since =
-          λ m es h.
-          record { valid = All-push Valid es e h.valid v; history = subst (λ (x : List ℕ). History (empty m) x t) (ap (λ x. flat_map encoded es ++ x) a ∙ flat_map_more encoded [] es e) (r.since (empty m) (flat_map encoded es) h.history).0 };
-    }
-
 -- what is restored from the text of a log
 pub stands_written :
     (n : ℕ) (es : List Entry) (s : Meaning) (text : List ℕ) (p : Positions)
@@ -118,13 +99,12 @@ pub stands_closed :
 stands_closed s t text p c e h d n es a =
     subst (λ (x : List Entry). Stands p x) (ap entries e ∙ entries_closed n es s.means t.means a (c.does d)) h
 
--- a log that is opened on an empty page of n bytes
+-- a log that is opened on an empty page
 pub opened :
-    (n u v : ℕ) (own page lent : List ℕ)
-    → u ≡ 0
-    → v ≡ 0
+    (used : ℕ) (own page lent : List ℕ)
+    → own ≡ []
+    → used ≡ 0
     → page ≡ lent
-    → n ≡ length lent
-    → Accepted n [] (record { written = take v page; held = take u own; space = (length page - v) - u })
-opened n u v own page lent e f p l =
-    record { valid = tt; history = rw (e, f) (rw (p, ← l) (simp unary_clauses begun)) }
+    → Accepted (length lent) [] (record { written = take used page; held = own; space = (length page - used) - length own })
+opened used own page lent e f p =
+    record { valid = tt; history = rw (e, f, p) (simp unary_clauses begun) }

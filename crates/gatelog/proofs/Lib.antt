@@ -1,4 +1,3 @@
-pub mod Codec
 pub mod Restoring
 pub mod Accepting
 pub mod Reading

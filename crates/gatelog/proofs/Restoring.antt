@@ -1,4 +1,6 @@
-use Rattle.std.proofs.Common.{◌≡◌, ℕ, ◌+◌, ◌*◌, ◌≤◌, List, [], ◌∷◌, ◌++◌, take, drop, ℤ, Some, None, Option, sym, refl, ap, ◌∙◌, subst, append-nil, add-one}
+use Rattle.std.proofs.Common.{◌≡◌, ℕ, ◌+◌, ◌*◌, ◌≤◌, List, [], ◌∷◌, ◌++◌, length, take, drop, ℤ, Some, None, Option, sym, refl, ap, ◌∙◌, subst, append-nil, add-one, arith, take_all}
+use Rattle.std.proofs.Math.Seq.{drop-append_seam}
+use Rattle.std.proofs.lemmas.List.{drop-drop, take-append-le}
 use Rattle.std.specs.Option.{option_to_list}
 use Rattle.gatelog.specs.declared.entries.Entry.{Entry}
 use Rattle.gatelog.specs.declared.positions.Positions.{Positions}
@@ -18,27 +20,34 @@ entries_more :
 entries_more n bytes r e =
     ap (λ x. entries_in x bytes) (add-one n) ∙ ap (λ x. entries_in n bytes ++ option_to_list x) (sym e)
 
--- the six bytes as the code cuts them
-cut : (n k : ℕ) (bytes : List ℕ) → k ≡ 6 → take k (drop (6 * n) bytes) ≡ record_at n bytes
-cut n k bytes e = ap (λ x. take x (drop (6 * n) bytes)) e
+-- the next six bytes, and those behind them
+pub next_record :
+    (n : ℕ) (bytes x rest : List ℕ)
+    → drop (6 * n) bytes ≡ x ++ rest
+    → length x ≡ 6
+    → (x ≡ record_at n bytes) × (rest ≡ drop (6 * (n + 1)) bytes)
+next_record n bytes x rest e l = (
+  sym (ap (take 6) e ∙ take-append-le 6 x rest (omega (arith, l)) ∙ take_all 6 x (omega (arith, l))),
+  sym (ap (λ k. drop k bytes) (omega arith) ∙ sym (drop-drop 6 (6 * n) bytes) ∙ ap (drop 6) e ∙ ap (λ k. drop k (x ++ rest)) (sym l) ∙ drop-append_seam x rest),
+)
 
 -- a turn of the loop at six bytes that are no record
 pub stands_same :
-    (n k : ℕ) (bytes : List ℕ) (p : Positions)
-    → k ≡ 6
-    → None ≡ decoded (take k (drop (6 * n) bytes))
+    (n : ℕ) (bytes x : List ℕ) (p : Positions)
+    → x ≡ record_at n bytes
+    → None ≡ decoded x
     → Stands p (entries_in n bytes)
     → Stands p (entries_in (n + 1) bytes)
-stands_same n k bytes p i e s =
-    subst (λ (x : List Entry). Stands p x) (sym (entries_more n bytes None (e ∙ ap decoded (cut n k bytes i)) ∙ append-nil (entries_in n bytes))) s
+stands_same n bytes x p i e s =
+    subst (λ (x : List Entry). Stands p x) (sym (entries_more n bytes None (e ∙ ap decoded i) ∙ append-nil (entries_in n bytes))) s
 
 -- and at a record
 pub stands_more :
-    (n k : ℕ) (bytes : List ℕ) (p q : Positions) (d : Entry)
-    → k ≡ 6
-    → Some d ≡ decoded (take k (drop (6 * n) bytes))
+    (n : ℕ) (bytes x : List ℕ) (p q : Positions) (d : Entry)
+    → x ≡ record_at n bytes
+    → Some d ≡ decoded x
     → Stands p (entries_in n bytes)
     → ((gate : ℕ) → 1 ≤ gate → gate ≤ 9 → position_of q gate ≡ moved gate d (position_of p gate))
     → Stands q (entries_in (n + 1) bytes)
-stands_more n k bytes p q d i e s m =
-    subst (λ (x : List Entry). Stands q x) (sym (entries_more n bytes (Some d) (e ∙ ap decoded (cut n k bytes i)))) (λ gate l h. m gate l h ∙ ap (moved gate d) (s gate l h) ∙ sym (moved_push gate (entries_in n bytes) d None))
+stands_more n bytes x p q d i e s m =
+    subst (λ (x : List Entry). Stands q x) (sym (entries_more n bytes (Some d) (e ∙ ap decoded i))) (λ gate l h. m gate l h ∙ ap (moved gate d) (s gate l h) ∙ sym (moved_push gate (entries_in n bytes) d None))

@@ -30,16 +30,7 @@ abbrev pub Understood : List ℕ → Option Command → Type 0
 Understood line (Some c) = Says line c
 Understood line None = (c : Command) → Says line c → ⊥
 
--- The same of a position, and of figures.
+-- The same of a position.
 abbrev pub ReadPosition : List ℕ → Option ℤ → Type 0
 ReadPosition text (Some z) = Writes text z
 ReadPosition text None = (z : ℤ) → Writes text z → ⊥
-
--- The figures behind a minus sign.
-abbrev pub ReadNegative : List ℕ → Option ℤ → Type 0
-ReadNegative text (Some z) = Figures text × (z ≡ neg_ℤ (pos (digits_value 10 text))) × FitsSigned w16 z
-ReadNegative text None = Figures text → FitsSigned w16 (neg_ℤ (pos (digits_value 10 text))) → ⊥
-
-abbrev pub ReadFigures : List ℕ → Option ℕ → Type 0
-ReadFigures text (Some n) = Figures text × (n ≡ digits_value 10 text)
-ReadFigures text None = Figures text → ⊥

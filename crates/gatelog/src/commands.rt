@@ -1,4 +1,5 @@
-ghost use Rattle.gatelog.specs.Commands.{Understood, ReadPosition, ReadNegative, ReadFigures};
+ghost use Rattle.std.specs.Prelude.{Decides};
+ghost use Rattle.gatelog.specs.Commands.{Figures, Understood, ReadPosition};
 
 use crate::entries::Entry;
 
@@ -13,65 +14,45 @@ pub enum Command {
     Off,
 }
 
-/// The number that one to five figures write.
-fn figures(text: &[u8]) -> Option<u32>
-    ensures { ReadFigures text.now result }
+/// Whether a text is one to five figures.
+fn are_figures(text: &[u8]) -> bool
+    ensures { Decides result (Figures text.now) }
 {
     if text.is_empty() || text.len() > 5 {
-        return None;
+        return false;
     }
-    let mut number: u32 = 0;
-    for b in text {
-        if !b.is_ascii_digit() {
-            return None;
-        }
-        number = number * 10 + u32::from(*b - b'0');
-    }
-    Some(number)
-}
-
-/// The number below 0, or 0, that figures behind a minus sign write.
-fn negative(text: &[u8]) -> Option<i16>
-    ensures { ReadNegative text.now result }
-{
-    match figures(text) {
-        Some(number) => i16::try_from(-i64::from(number)).ok(),
-        None => None,
-    }
+    text.iter().all(|b| b.is_ascii_digit())
 }
 
 /// The position that a text writes.
 fn position(text: &[u8]) -> Option<i16>
     ensures { ReadPosition text.now result }
 {
-    match text {
-        [b'-', rest @ ..] => negative(rest),
-        _ => match figures(text) {
-            Some(number) => i16::try_from(number).ok(),
-            None => None,
-        },
+    let figures = text.strip_prefix(b"-").unwrap_or(text);
+    if !are_figures(figures) {
+        return None;
     }
+    str::from_utf8(text).ok()?.parse().ok()
 }
 
 impl Command {
     /// The command that a line says.
+    // No `FromStr`: a line is bytes, and need not be text.
     pub fn read(line: &[u8]) -> Option<Command>
         ensures { Understood line.now result }
     {
         match line {
             b"flush" => Some(Command::Flush),
             b"off" => Some(Command::Off),
-            [b'g', b'a', b't', b'e', b' ', gate, b' ', text @ ..] => {
-                if *gate < b'1' || b'9' < *gate {
+            _ => {
+                let gate_line = line.strip_prefix(b"gate ")?;
+                let [gate @ b'1'..=b'9', b' ', text @ ..] = gate_line else {
                     return None;
-                }
+                };
                 let gate = *gate - b'0';
-                match position(text) {
-                    Some(position) => Some(Command::Record(Entry { gate, position })),
-                    None => None,
-                }
+                let position = position(text)?;
+                Some(Command::Record(Entry { gate, position }))
             }
-            _ => None,
         }
     }
 }

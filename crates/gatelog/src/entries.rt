@@ -1,5 +1,8 @@
-ghost use Rattle.std.specs.Prelude.{◌≡◌, ◌+◌, ◌%◌, Some, Decides};
+ghost use Rattle.std.specs.Prelude.{◌≡◌, ◌+◌, ◌%◌, ◌++◌, Some, Decides, codes};
+ghost use Rattle.std.specs.Fmt.{decimal, signed_decimal};
 ghost use Rattle.gatelog.specs.Entries.{Valid, encoded, decoded, Decodes};
+
+use std::fmt;
 
 /// One gate of a cabinet, 1 to 9, and where it stands.
 #[derive(Clone, Copy, PartialEq, Eq, Debug)]
@@ -20,10 +23,11 @@ impl Entry {
     pub fn is_valid(self) -> bool
         ensures { Decides result (Valid self) }
     {
-        1 <= self.gate && self.gate <= 9
+        matches!(self.gate, 1..=9)
     }
 
     /// The record of the entry.
+    // No `From`, nor `TryFrom` for `decode`: the names say what the bytes are, and an error would have nothing to tell.
     pub fn encode(self) -> [u8; 6]
         ensures bytes { result ≡ encoded self }
         ensures undone { Valid self → decoded result ≡ Some self }
@@ -38,18 +42,19 @@ impl Entry {
         ensures value { result ≡ decoded bytes.now }
         ensures undoes { Decodes bytes.now result }
     {
-        let [mark, gate, high, low, sum, end] = bytes else {
+        let &[b'G', gate, high, low, sum, b'\n'] = bytes else {
             return None;
         };
-        let entry = Entry {
-            gate: *gate,
-            position: i16::from_be_bytes([*high, *low]),
-        };
-        let intact = *mark == b'G' && *sum == check(*gate, *high, *low) && *end == b'\n';
-        if intact && entry.is_valid() {
-            Some(entry)
-        } else {
-            None
-        }
+        let position = i16::from_be_bytes([high, low]);
+        let entry = Entry { gate, position };
+        (sum == check(gate, high, low) && entry.is_valid()).then_some(entry)
+    }
+}
+
+impl fmt::Display for Entry {
+    ghost output = { λ e. Some (codes "gate " ++ (decimal e.gate ++ (codes " at " ++ signed_decimal e.position))) };
+
+    fn fmt<W: fmt::Write>(&self, f: &mut fmt::Formatter<W>) -> fmt::Result {
+        write!(f, "gate {} at {}", self.gate, self.position)
     }
 }

@@ -1,12 +1,13 @@
-ghost use Rattle.std.specs.Prelude.{◌≡◌, ℕ, ◌/◌, List, [], ◌∷◌, length, take};
+ghost use Rattle.std.specs.Prelude.{◌≡◌, ℕ, ◌/◌, List, [], ◌∷◌, ◌++◌, length, take, Some, codes};
+ghost use Rattle.std.specs.Fmt.{decimal};
 ghost use Rattle.streams.specs.Recorders.{Kept};
-ghost use Rattle.streams.specs.Kinds.{filled, over};
 ghost use Rattle.gatelog.specs.declared.entries.Entry.{Entry};
 ghost use Rattle.gatelog.specs.Restored.{Stands};
 ghost use Rattle.gatelog.specs.Logged.{Accepted, Logs, Flushes};
 
 use crate::entries::Entry;
 use crate::positions::{Positions, restore};
+use std::fmt;
 use streams::blockers::Blocker;
 use streams::pages::Page;
 use streams::recorders::{FlushRecorder, ReadRecorder, Recorder, close, record_all};
@@ -48,10 +49,11 @@ impl<R: ReadRecorder + Drop> Logger<R> {
         if !entry.is_valid() {
             return Err(Refusal::NoSuchGate);
         }
-        if self.out.space() < 6 {
+        let record = entry.encode();
+        if self.out.space() < record.len() {
             return Err(Refusal::NoSpace);
         }
-        let _ = record_all(&mut self.out, &entry.encode());
+        let _ = record_all(&mut self.out, &record);
         Ok(())
     }
 
@@ -84,27 +86,35 @@ impl<R: ReadRecorder + Drop> Logger<R> {
 /// A log through a blocker on a page.
 pub type PageLogger<'p> = Logger<Blocker<Page<'p>>>;
 
-impl<'p> Logger<Blocker<Page<'p>>> {
+impl<'p> PageLogger<'p> {
     /// An empty log through a blocker on a page.
-    pub fn on_page(page: &'p mut [u8]) -> Logger<Blocker<Page<'p>>>
+    pub fn on_page(page: &'p mut [u8]) -> PageLogger<'p>
         ensures lent { result.out.below.bytes.ghost_name ≡ page.entry.ghost_name }
-        ensures sound { (over result.out.bytes result.out.used (filled result.out.below.bytes.now result.out.below.used (result.out.below.bytes.ghost_name ∷ []))).sound }
-        ensures fresh { Accepted (length page.old) [] (over result.out.bytes result.out.used (filled result.out.below.bytes.now result.out.below.used (result.out.below.bytes.ghost_name ∷ []))).means }
+        ensures sound { (⟦<Blocker<Page<'p>> as Recorder>⟧.state result.out).sound }
+        ensures fresh { Accepted (length page.old) [] (⟦<Blocker<Page<'p>> as Recorder>⟧.state result.out).means }
     {
         Logger::new(Blocker::new(Page::new(page)))
     }
 
     /// How many bytes are written.
     pub fn written(&self) -> usize
-        ensures { result ≡ length (over self.now.out.bytes self.now.out.used (filled self.now.out.below.bytes.now self.now.out.below.used [])).means.written }
+        ensures { result ≡ length (⟦<Blocker<Page<'p>> as Recorder>⟧.state self.now.out).means.written }
     {
         self.out.text().len()
     }
 
     /// How many bytes are held back.
     pub fn held(&self) -> usize
-        ensures { result ≡ length (over self.now.out.bytes self.now.out.used (filled self.now.out.below.bytes.now self.now.out.below.used [])).means.held }
+        ensures { result ≡ length (⟦<Blocker<Page<'p>> as Recorder>⟧.state self.now.out).means.held }
     {
         self.out.waiting().len()
+    }
+}
+
+impl<'p> fmt::Display for PageLogger<'p> {
+    ghost output = { λ s. let m = (⟦<Blocker<Page<'p>> as Recorder>⟧.state s.out).means in Some (codes "written " ++ (decimal (length m.written) ++ (codes ", held " ++ decimal (length m.held)))) };
+
+    fn fmt<W: fmt::Write>(&self, f: &mut fmt::Formatter<W>) -> fmt::Result {
+        write!(f, "written {}, held {}", self.written(), self.held())
     }
 }

@@ -21,11 +21,8 @@ impl Positions {
     pub fn of_gate(&self, gate: u8) -> Option<i16>
         ensures { result ≡ position_of self.now gate }
     {
-        if 1 <= gate && gate <= 9 {
-            self.gates[gate as usize - 1]
-        } else {
-            None
-        }
+        let index = usize::from(gate).checked_sub(1)?;
+        *self.gates.get(index)?
     }
 
     /// The entry overtakes what was known of its gate. The other gates stay, and all do where there is no
@@ -33,8 +30,8 @@ impl Positions {
     pub fn note(&mut self, entry: Entry)
         ensures { (gate : ℕ) → 1 ≤ gate → gate ≤ 9 → position_of self.new gate ≡ moved gate entry (position_of self.old gate) }
     {
-        if 1 <= entry.gate && entry.gate <= 9 {
-            self.gates[entry.gate as usize - 1] = Some(entry.position);
+        if entry.is_valid() {
+            self.gates[usize::from(entry.gate) - 1] = Some(entry.position);
         }
     }
 }
@@ -44,10 +41,9 @@ pub fn restore(bytes: &[u8]) -> Positions
     ensures { Stands result (entries bytes.now) }
 {
     let mut positions = Positions::unknown();
-    for n in 0..bytes.len() / 6 {
-        match Entry::decode(&bytes[6 * n..6 * n + 6]) {
-            Some(entry) => positions.note(entry),
-            None => {}
+    for record in bytes.chunks_exact(6) {
+        if let Some(entry) = Entry::decode(record) {
+            positions.note(entry);
         }
     }
     positions

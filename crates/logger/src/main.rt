@@ -12,32 +12,19 @@ use std::io::{BufRead, BufReader};
 
 /// The size of the page.
 fn page_bytes(rt: &HostRuntime) -> anyhow::Result<usize> {
-    match env::args(rt)?.nth(1) {
-        Some(text) => Ok(text.parse::<usize>()?),
-        None => Ok(4096),
-    }
-}
-
-/// The line without the byte that ends it.
-fn content(line: &[u8]) -> &[u8] {
-    match line {
-        [text @ .., b'\n'] => text,
-        _ => line,
-    }
+    let Some(text) = env::args(rt)?.nth(1) else {
+        return Ok(4096);
+    };
+    Ok(text.parse()?)
 }
 
 /// Logs one entry and says what became of it.
 fn record(rt: &HostRuntime, log: &mut PageLogger, line: u64, entry: Entry) -> anyhow::Result<()> {
-    let gate = entry.gate;
-    let position = entry.position;
+    // No `Display` of a `Refusal`: the words name the page and the gate, of which it knows nothing.
     match log.record(entry) {
-        Ok(()) => {
-            let written = log.written();
-            let held = log.held();
-            println!(rt; "recorded gate {gate} at {position}: written {written}, held {held}")?;
-        }
+        Ok(()) => println!(rt; "recorded {entry}: {log}")?,
         Err(Refusal::NoSpace) => println!(rt; "line {line}: page full")?,
-        Err(Refusal::NoSuchGate) => println!(rt; "line {line}: no gate {gate}")?,
+        Err(Refusal::NoSuchGate) => println!(rt; "line {line}: no gate {}", entry.gate)?,
     }
     Ok(())
 }
@@ -45,21 +32,16 @@ fn record(rt: &HostRuntime, log: &mut PageLogger, line: u64, entry: Entry) -> an
 /// Writes what is held back and says so.
 fn flush(rt: &HostRuntime, log: &mut PageLogger, word: &str) -> anyhow::Result<()> {
     log.flush();
-    let written = log.written();
-    let held = log.held();
-    println!(rt; "{word}: written {written}, held {held}")?;
+    println!(rt; "{word}: {log}")?;
     Ok(())
 }
 
 /// Does what the lines say, up to `off` or the end of the input.
 fn serve(rt: &HostRuntime, log: &mut PageLogger) -> anyhow::Result<()> {
-    let mut input = BufReader::new(rt.alloc(), rt.stdin())?;
-    for number in 1..u64::MAX {
-        let mut line = Vec::new(rt.alloc());
-        if input.read_until(b'\n', &mut line)? == 0 {
-            break;
-        }
-        match Command::read(content(line.as_slice())) {
+    let input = BufReader::new(rt.alloc(), rt.stdin())?;
+    for (number, line) in (1..u64::MAX).zip(input.split(rt.alloc(), b'\n')) {
+        let line = line?;
+        match Command::read(&line) {
             Some(Command::Record(entry)) => record(rt, log, number, entry)?,
             Some(Command::Flush) => flush(rt, log, "flushed")?,
             Some(Command::Off) => break,
@@ -73,7 +55,8 @@ fn serve(rt: &HostRuntime, log: &mut PageLogger) -> anyhow::Result<()> {
 fn show(rt: &HostRuntime, positions: &Positions) -> anyhow::Result<()> {
     for gate in 1..=9 {
         if let Some(position) = positions.of_gate(gate) {
-            println!(rt; "restored gate {gate} at {position}")?;
+            let entry = Entry { gate, position };
+            println!(rt; "restored {entry}")?;
         }
     }
     Ok(())

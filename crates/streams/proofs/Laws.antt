@@ -1,7 +1,6 @@
-use Rattle.std.proofs.Common.{◌≡◌, ℕ, ◌+◌, ◌<◌, ◌≤◌, List, [], ◌∷◌, ◌++◌, length, get_or, take, Ok, Err, Result, sym, ap, ◌∙◌, subst, append_assoc, append-nil, arith, length-append, length-take, take_all}
+use Rattle.std.proofs.Common.{◌≡◌, ℕ, ◌+◌, ◌<◌, List, [], ◌∷◌, ◌++◌, length, get_or, take, sym, ap, ◌∙◌, subst, append_assoc, append-nil, arith, length-append, length-take, take_all}
 use Rattle.std.proofs.lemmas.List.{take_more, length-take-le}
-use Rattle.streams.specs.declared.recorders.Full.{Full}
-use Rattle.streams.specs.Recorders.{Meaning, State, Kept, Arrive, Put, whole, flushed}
+use Rattle.streams.specs.Recorders.{Meaning, State, Kept, Arrive, whole, flushed}
 use Rattle.streams.specs.History.{History, begun, accepted, declined, emptied, NothingLost, Recorded, Closed, Shut}
 
 -- One call after another.
@@ -44,12 +43,6 @@ arrive_then bs cs s t u p q =
       spends = omega (arith, p.spends, q.spends, length-append bs cs);
       passes = (m ++ l, q.passes.1 ∙ ap (λ x. x ++ l) p.passes.1 ∙ append_assoc s.written m l, append_assoc m l u.held ∙ ap (λ x. m ++ x) q.passes.2 ∙ sym (append_assoc m t.held cs) ∙ ap (λ x. x ++ cs) p.passes.2 ∙ append_assoc s.held bs cs);
     }
-
--- where there is space, a `put` is not declined
-pub space_put :
-    (r : Result (Unit {0}) Full) (b : ℕ) (s t : Meaning) → 0 < s.space → Put r b s t → Arrive (b ∷ []) s t
-space_put (Ok x) b s t l p = p
-space_put (Err e) b s t l p = absurd (omega (arith, l, p.0))
 
 -- Histories.
 
@@ -170,15 +163,3 @@ pub recorded_then_closed :
     → Kept Closed t u
     → Kept (Shut bytes n) s u
 recorded_then_closed bytes n p q = kept_then (Shut bytes n) p q (recorded_closed bytes n _ _ _)
-
--- a front for which there is space goes down whole
-pub all_arrive :
-    (bs cs : List ℕ) (k n : ℕ) (s t : Meaning)
-    → cs ≡ take k bs
-    → Recorded cs n s t
-    → k ≤ s.space
-    → Arrive (take k bs) s t
-all_arrive bs cs k n s t e p h =
-    let l : length cs ≤ k = omega (arith, ap length e, length-take k bs) in
-    let a : take n cs ≡ take k bs = take_all n cs (omega (arith, p.count)) ∙ e in
-    subst (λ (x : List ℕ). Arrive x s t) a p.arrives

@@ -11,36 +11,31 @@ filled bytes used through =
       through = through;
     }
 
--- A blocker over a recorder in state s, in whose own memory the first `used` of `bytes` wait. They count as held
--- behind what is held below, and against the space below.
-abbrev pub over : List ℕ → ℕ → State → State
-over bytes used s =
+-- A blocker over a recorder in state s, in whose own memory the bytes `own` wait. They count as held behind what is
+-- held below, and against the space below.
+abbrev pub over : List ℕ → State → State
+over own s =
     record {
-      sound = s.sound × (used ≤ s.means.space) × (used < length bytes);
+      sound = s.sound × (length own ≤ s.means.space);
       means = record {
         written = s.means.written;
-        held = s.means.held ++ take used bytes;
-        space = s.means.space - used;
+        held = s.means.held ++ own;
+        space = s.means.space - length own;
       };
       through = s.through;
     }
-
--- What storing b behind the first `used` of some bytes does to them; n of them are used then.
-abbrev pub Stores : Result ℕ Full → ℕ → List ℕ → ℕ → List ℕ → Type 0
-Stores (Ok n) b bytes used bytes' = (used < length bytes) × (n ≡ used + 1) × (bytes' ≡ slice_set bytes used b)
-Stores (Err _) b bytes used bytes' = (length bytes ≤ used) × (bytes' ≡ bytes)
 
 -- What a `put` does to the bytes of a page or a strip and to their count.
 abbrev pub Stored : Result (Unit {0}) Full → ℕ → List ℕ → ℕ → List ℕ → ℕ → Type 0
 Stored (Ok _) b bytes used bytes' used' = (bytes' ≡ slice_set bytes used b) × (used' ≡ used + 1)
 Stored (Err _) b bytes used bytes' used' = (bytes' ≡ bytes) × (used' ≡ used)
 
--- What a `put` of b does to a blocker with own bytes `own` over a recorder that means s: an accepted byte waits with
--- them or, as the 128th, all go down; a declined one changes nothing.
-pub record Joined (b : ℕ) (own : List ℕ) (s : Meaning) (own' : List ℕ) (s' : Meaning) : Type 0 where
-  pub waits : length own + 1 < 128 → (own' ≡ own ++ b ∷ []) × (s' ≡ s)
-  pub goes : length own + 1 ≡ 128 → (own' ≡ []) × Arrive (own ++ b ∷ []) s s'
+-- What a `put` of b does to a blocker of blocks of n, with own bytes `own` over a recorder that means s: an accepted
+-- byte waits with them or, as the n-th, all go down; a declined one changes nothing.
+pub record Joined (n b : ℕ) (own : List ℕ) (s : Meaning) (own' : List ℕ) (s' : Meaning) : Type 0 where
+  pub waits : length own + 1 < n → (own' ≡ own ++ b ∷ []) × (s' ≡ s)
+  pub goes : length own + 1 ≡ n → (own' ≡ []) × Arrive (own ++ b ∷ []) s s'
 
-abbrev pub Blocked : Result (Unit {0}) Full → ℕ → List ℕ → Meaning → List ℕ → Meaning → Type 0
-Blocked (Ok _) b own s own' s' = Joined b own s own' s'
-Blocked (Err _) b own s own' s' = (own' ≡ own) × (s' ≡ s)
+abbrev pub Blocked : ℕ → Result (Unit {0}) Full → ℕ → List ℕ → Meaning → List ℕ → Meaning → Type 0
+Blocked n (Ok _) b own s own' s' = Joined n b own s own' s'
+Blocked n (Err _) b own s own' s' = (own' ≡ own) × (s' ≡ s)

@@ -1,46 +1,38 @@
-ghost use Rattle.std.specs.Prelude.{◌≡◌, ℕ, ◌≤◌, [], length, take};
+ghost use Rattle.std.specs.Prelude.{◌≡◌, ℕ, ◌+◌, ◌≤◌, [], length};
 ghost use Rattle.streams.specs.Recorders.{State, Kept, Put, Arrive, flushed};
 ghost use Rattle.streams.specs.Kinds.{over, Blocked};
 
-use crate::fronts::front;
 use crate::recorders::{FlushRecorder, Full, ReadRecorder, Recorder, record_all};
+use arrayvec::ArrayVec;
 
-/// Passes the first bytes down, all of them where there is space.
-fn pass<R: Recorder>(below: &mut R, bytes: &[u8], count: usize)
-    ensures { Kept (λ s t. count ≤ s.space → Arrive (take count bytes.now) s t) (R.Recorder.state below.old) (R.Recorder.state below.new) }
-{
-    let _ = record_all(below, front(bytes, count));
-}
-
-/// Where the byte stands that fills a block: the 128th.
-const LAST: usize = 127;
-
-/// Holds bytes back and passes them down to the recorder below as the 128th arrives.
+/// Holds bytes back, `MOST` of them at most, and passes all down to the recorder below as one more
+/// arrives.
 #[derive(Drop)]
-pub struct Blocker<R> {
+pub struct Buffered<R, const MOST: usize> {
     below: R,
-    bytes: [u8; 128],
-    used: usize,
+    own: ArrayVec<u8, MOST>,
 }
 
-impl<R: FlushRecorder> Blocker<R> {
+/// Passes its bytes down as the 128th arrives.
+pub type Blocker<R> = Buffered<R, 127>;
+
+impl<R: FlushRecorder, const MOST: usize> Buffered<R, MOST> {
     /// A blocker with no bytes of its own: it means what the recorder below means.
-    pub fn new(below: R) -> Blocker<R>
-        ensures fresh { (result.below ≡ below) × (result.used ≡ 0) }
-        ensures opens { Kept (λ s t. t ≡ s) (R.Recorder.state below) (over result.bytes result.used (R.Recorder.state result.below)) }
+    pub fn new(below: R) -> Buffered<R, MOST>
+        ensures fresh { (result.below ≡ below) × (result.own.items ≡ []) }
+        ensures opens { Kept (λ s t. t ≡ s) (R.Recorder.state below) (⟦<Buffered<R, MOST> as Recorder>⟧.state result) }
     {
-        Blocker {
+        Buffered {
             below,
-            bytes: [0; 128],
-            used: 0,
+            own: ArrayVec::new(),
         }
     }
 
     /// The bytes of its own that wait.
     pub fn waiting(&self) -> &[u8]
-        ensures { result.now ≡ take self.now.used self.now.bytes }
+        ensures { result.now ≡ self.now.own.items }
     {
-        front(&self.bytes, self.used)
+        self.own.as_slice()
     }
 
     /// The recorder below.
@@ -51,55 +43,55 @@ impl<R: FlushRecorder> Blocker<R> {
     }
 
     /// Writes everything and gives the recorder below back.
-    pub fn end(self) -> R
-        ensures { Kept (λ s t. t ≡ flushed s) (over self.bytes self.used (R.Recorder.state self.below)) (R.Recorder.state result) }
+    pub fn end(mut self) -> R
+        ensures { Kept (λ s t. t ≡ flushed s) (⟦<Buffered<R, MOST> as Recorder>⟧.state self) (R.Recorder.state result) }
     {
-        let Blocker {
-            mut below,
-            bytes,
-            used,
-        } = self;
-        pass(&mut below, &bytes, used);
-        below.flush();
+        self.flush();
+        let Buffered { below, own: _ } = self;
         below
+    }
+
+    /// Passes its own bytes down, all of them where there is space.
+    fn pass(&mut self)
+        ensures own { self.new.own.items ≡ [] }
+        ensures below { Kept (λ s t. length self.old.own.items ≤ s.space → Arrive self.old.own.items s t) (R.Recorder.state self.old.below) (R.Recorder.state self.new.below) }
+    {
+        let _ = record_all(&mut self.below, self.own.as_slice());
+        self.own.clear();
     }
 }
 
-impl<R: FlushRecorder> Recorder for Blocker<R> {
-    ghost state = { λ s. over s.bytes s.used (R.Recorder.state s.below) };
+impl<R: FlushRecorder, const MOST: usize> Recorder for Buffered<R, MOST> {
+    ghost state = { λ s. over s.own.items (R.Recorder.state s.below) };
 
     fn space(&self) -> usize {
-        self.below.space().saturating_sub(self.used)
+        self.below.space().saturating_sub(self.own.len())
     }
 
     fn put(&mut self, b: u8) -> Result<(), Full>
-        ensures puts { Kept (Put result b) (over self.old.bytes self.old.used (R.Recorder.state self.old.below)) (over self.new.bytes self.new.used (R.Recorder.state self.new.below)) }
-        ensures blocks { (over self.old.bytes self.old.used (R.Recorder.state self.old.below)).sound → Blocked result b (take self.old.used self.old.bytes) (R.Recorder.state self.old.below).means (take self.new.used self.new.bytes) (R.Recorder.state self.new.below).means }
+        ensures puts { Kept (Put result b) (⟦<Buffered<R, MOST> as Recorder>⟧.state self.old) (⟦<Buffered<R, MOST> as Recorder>⟧.state self.new) }
+        ensures blocks { (⟦<Buffered<R, MOST> as Recorder>⟧.state self.old).sound → Blocked (MOST + 1) result b self.old.own.items (R.Recorder.state self.old.below).means self.new.own.items (R.Recorder.state self.new.below).means }
     {
-        if self.below.space() <= self.used {
+        if self.space() == 0 {
             return Err(Full);
         }
-        let at = self.used.min(LAST);
-        self.bytes[at] = b;
-        if at >= LAST {
-            pass(&mut self.below, &self.bytes, at + 1);
-            self.used = 0;
-        } else {
-            self.used = at + 1;
+        if self.own.is_full() {
+            self.pass();
+            return self.below.put(b);
         }
+        self.own.push(b);
         Ok(())
     }
 }
 
-impl<R: FlushRecorder> FlushRecorder for Blocker<R> {
+impl<R: FlushRecorder, const MOST: usize> FlushRecorder for Buffered<R, MOST> {
     fn flush(&mut self) {
-        pass(&mut self.below, &self.bytes, self.used);
-        self.used = 0;
+        self.pass();
         self.below.flush();
     }
 }
 
-impl<R: ReadRecorder> ReadRecorder for Blocker<R> {
+impl<R: ReadRecorder, const MOST: usize> ReadRecorder for Buffered<R, MOST> {
     fn text(&self) -> &[u8] {
         self.below.text()
     }

@@ -3,10 +3,10 @@
 #![tactic(auto)]
 
 pub mod blockers;
-mod fronts;
 pub mod pages;
 pub mod recorders;
 pub mod sources;
+pub mod stores;
 pub mod strips;
 #[cfg(test)]
 mod tests;

@@ -1,53 +1,29 @@
 ghost use Rattle.std.specs.Prelude.{◌≡◌, min, [], ◌∷◌, length, take};
-ghost use Rattle.streams.specs.Recorders.{State, Kept, Put, empty, flushed};
-ghost use Rattle.streams.specs.Kinds.{filled, Stored};
+ghost use Rattle.streams.specs.Recorders.{empty};
 
-use crate::fronts::{front, store};
-use crate::recorders::{FlushRecorder, Full, ReadRecorder, Recorder, record_and_flush};
+use crate::recorders::{Recorder, record_and_flush};
+use crate::stores::{Filled, Store};
 
 /// A page of bytes that is handed in. It writes at once and holds nothing back; its space is fixed by
 /// the page's length when it is made.
-#[derive(Drop)]
-pub struct Page<'a> {
-    bytes: &'a mut [u8],
-    used: usize,
+pub type Page<'a> = Filled<&'a mut [u8]>;
+
+impl<'a> Store for &'a mut [u8] {
+    ghost through = { λ s. s.ghost_name ∷ [] };
+
+    fn set(&mut self, at: usize, b: u8) {
+        self[at] = b;
+    }
 }
 
-impl<'a> Page<'a> {
+impl<'a> Filled<&'a mut [u8]> {
     /// An empty page over all of `bytes`.
     pub fn new(bytes: &'a mut [u8]) -> Page<'a>
         ensures lent { result.bytes.ghost_name ≡ bytes.entry.ghost_name }
         ensures fresh { (result.bytes.now ≡ bytes.old) × (result.used ≡ 0) }
-        ensures means { (filled result.bytes.now result.used (result.bytes.ghost_name ∷ [])).means ≡ empty (length bytes.old) }
+        ensures means { (⟦<Page<'a> as Recorder>⟧.state result).means ≡ empty (length bytes.old) }
     {
-        Page { bytes, used: 0 }
-    }
-}
-
-impl<'a> Recorder for Page<'a> {
-    ghost state = { λ s. filled s.bytes.now s.used (s.bytes.ghost_name ∷ []) };
-
-    fn space(&self) -> usize {
-        self.bytes.len().saturating_sub(self.used)
-    }
-
-    fn put(&mut self, b: u8) -> Result<(), Full>
-        ensures puts { Kept (Put result b) (filled self.old.bytes.now self.old.used (self.old.bytes.ghost_name ∷ [])) (filled self.new.bytes.now self.new.used (self.new.bytes.ghost_name ∷ [])) }
-        ensures stores { Stored result b self.old.bytes.now self.old.used self.new.bytes.now self.new.used }
-    {
-        let used = self.used;
-        self.used = store(self.bytes, used, b)?;
-        Ok(())
-    }
-}
-
-impl<'a> FlushRecorder for Page<'a> {
-    fn flush(&mut self) {}
-}
-
-impl<'a> ReadRecorder for Page<'a> {
-    fn text(&self) -> &[u8] {
-        front(self.bytes, self.used)
+        Filled { bytes, used: 0 }
     }
 }
 

@@ -38,11 +38,11 @@ pub trait ReadRecorder: FlushRecorder {
 pub fn record_all<R: Recorder>(r: &mut R, bytes: &[u8]) -> usize
     ensures { Kept (Recorded bytes.now result) (R.Recorder.state r.old) (R.Recorder.state r.new) }
 {
+    // `position` with a closure that puts was tried: its contract does not say what the recorder becomes.
     for (i, b) in bytes.iter().enumerate() {
-        match r.put(*b) {
-            Ok(()) => {}
-            Err(Full) => return i,
-        }
+        let Ok(()) = r.put(*b) else {
+            return i;
+        };
     }
     bytes.len()
 }

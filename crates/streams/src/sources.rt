@@ -2,6 +2,7 @@ ghost use Rattle.std.specs.Prelude.{◌≡◌, ℕ, List, ◌++◌};
 ghost use Rattle.streams.specs.Sources.{Got};
 
 /// A source means the list of bytes that wait.
+// No `Iterator`: its `next` may ask a `requires` of its caller, and may give items again after None.
 pub trait Source {
     ghost waiting: { Self → List ℕ };
 
@@ -29,13 +30,9 @@ impl<'a> Source for Bytes<'a> {
     ghost waiting = { λ s. s.rest.now };
 
     fn get(&mut self) -> Option<u8> {
-        match self.rest.split_first() {
-            Some((first, rest)) => {
-                self.rest = rest;
-                Some(*first)
-            }
-            None => None,
-        }
+        let (first, rest) = self.rest.split_first()?;
+        self.rest = rest;
+        Some(*first)
     }
 }
 
@@ -58,6 +55,7 @@ impl<A1: Source, B1: Source> Source for Chain<A1, B1> {
     ghost waiting = { λ s. A1.Source.waiting s.first ++ B1.Source.waiting s.second };
 
     fn get(&mut self) -> Option<u8> {
+        // `or_else` with a closure that asks the second was tried: its contract does not say what that becomes.
         match self.first.get() {
             Some(b) => Some(b),
             None => self.second.get(),

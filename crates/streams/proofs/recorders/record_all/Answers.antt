@@ -5,9 +5,9 @@ use Rattle.streams.proofs.Laws.{kept_then, kept_map, front_none, front_more, fro
 pub loop-i-init : goal.loop-i-init
 loop-i-init g c = record { lent = refl; stays = λ h. h; does = λ h. front_none _ }
 
-pub returns-in-Err : goal.returns-in-Err
-returns-in-Err g c =
-    kept_then _ c.loop-i.invariant c.in-Err.ensures (front_declined c.args.bytes.now c.loop-i.i _ _ _ (omega arith))
+pub returns-in_default : goal.returns-in_default
+returns-in_default g c =
+    kept_then _ c.loop-i.invariant c.in_default.ensures (front_declined c.args.bytes.now c.loop-i.i _ _ _ (omega arith))
 
 pub loop-i-preserved : goal.loop-i-preserved
 loop-i-preserved g c =
