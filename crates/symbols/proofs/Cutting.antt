@@ -90,13 +90,8 @@ some_byte t f n e =
     go h.front h.size s
   where
     go : (w : List ℕ) → length w ≡ n → see w ≡ found f (length w) → 0 < n
-    go [] m s = let z : ◌≡◌ {A = ℕ} 0 1 = cc in absurd (omega arith)
+    go [] m s = cc
     go (b ∷ w) m s = omega (arith, m)
-
-pub within_text : (t : List ℕ) (f : Option Symbol) (n : ℕ) → see t ≡ found f n → n ≤ length t
-within_text t f n e =
-    let h = taken t f n e in
-    omega (arith, h.size, ap length h.whole, length-append h.front h.rest)
 
 -- the value of an item that is not too large
 pub not_large : (s : Symbol) (t : List ℕ) (n : ℕ) → see t ≡ found (Some s) n → too_large s (take n t) ≡ false → (v : ℕ) → IsInteger (take n t) v → v ≤ max_integer
@@ -112,11 +107,11 @@ not_large s t n e h v i =
     whose g q = let p = self (Some Integer) (take n t) (v, i) in cc
 
     go : (g : Symbol) → see (take n t) ≡ found (Some g) (length (take n t)) → too_large g (take n t) ≡ false → v ≤ max_integer
-    go Name q x = let z = whose Name q in let y : ◌≡◌ {A = ℕ} 0 1 = cc in absurd (omega arith)
+    go Name q x = let z = whose Name q in cc
     go Integer q x = omega (arith, value, ltb-false max_integer (value_of (take n t)) x)
-    go Text q x = let z = whose Text q in let y : ◌≡◌ {A = ℕ} 0 1 = cc in absurd (omega arith)
-    go (Word k) q x = let z = whose (Word k) q in let y : ◌≡◌ {A = ℕ} 0 1 = cc in absurd (omega arith)
-    go (Mark m) q x = let z = whose (Mark m) q in let y : ◌≡◌ {A = ℕ} 0 1 = cc in absurd (omega arith)
+    go Text q x = let z = whose Text q in cc
+    go (Word k) q x = let z = whose (Word k) q in cc
+    go (Mark m) q x = let z = whose (Mark m) q in cc
 
 -- The twin meets the rules.
 
@@ -141,11 +136,11 @@ follows next p b t h k (found (Some s) n) e =
         → see (b ∷ t) ≡ found (Some s) n
         → too_large s (take n (b ∷ t)) ≡ true
         → Cut p (b ∷ t) [] (Some (IntegerTooLarge (place p)))
-    high Name e z = absurd (both_ways false refl z)
+    high Name e z = cc
     high Integer e z = cut_large p (b ∷ t) n e (ltb-true max_integer (value_of (take n (b ∷ t))) z)
-    high Text e z = absurd (both_ways false refl z)
-    high (Word w) e z = absurd (both_ways false refl z)
-    high (Mark m) e z = absurd (both_ways false refl z)
+    high Text e z = cc
+    high (Word w) e z = cc
+    high (Mark m) e z = cc
 follows next p b t h k short e = cut_short p b t e
 follows next p b t h k (stuck n) e = cut_stuck p b t n h e
 
@@ -182,7 +177,7 @@ blank_stuck b t h = go (eqb b 9) (eqb b 10) refl refl
 
 unblank : (b : ℕ) (t : List ℕ) (f : Option Symbol) (n : ℕ) → see (b ∷ t) ≡ found f n → blank b ≡ false
 unblank b t f n e =
-    ⊎_elim (λ h. let s = blank_stuck b t h in let z : ◌≡◌ {A = ℕ} 0 1 = cc in absurd (omega arith)) (λ h. h) (cases_Bool (blank b))
+    ⊎_elim (λ h. let s = blank_stuck b t h in cc) (λ h. h) (cases_Bool (blank b))
 
 -- one step of the twin where an item stands
 step :
@@ -190,7 +185,7 @@ step :
     → length t ≤ k
     → see t ≡ found f n
     → (j : ℕ) × (length t ≤ suc j) × (cuts k p t ≡ follow (λ m. cuts j (p + m) (drop m t)) p t (found f n))
-step k p [] f n l e = let z : ◌≡◌ {A = ℕ} 0 1 = cc in absurd (omega arith)
+step k p [] f n l e = cc
 step zero p (b ∷ t) f n l e = absurd (omega arith)
 step (suc j) p (b ∷ t) f n l e =
     (j, l, cond-false (blank b) _ _ (unblank b t f n e) ∙ ap (follow (λ m. cuts j (p + m) (drop m (b ∷ t))) p (b ∷ t)) e)
@@ -236,7 +231,7 @@ determined _ _ _ _ (large p w r v h i m) k l =
 determined _ _ _ _ (unfinished p b t h c) zero l = absurd (omega arith)
 determined _ _ _ _ (unfinished p b t h c) (suc k) l =
     let e = short_seen (b ∷ t) h c in
-    let u : blank b ≡ false = ⊎_elim (λ q. let s = blank_stuck b t q in let z : ◌≡◌ {A = ℕ} 0 1 = cc in absurd (omega arith)) (λ q. q) (cases_Bool (blank b)) in
+    let u : blank b ≡ false = ⊎_elim (λ q. let s = blank_stuck b t q in cc) (λ q. q) (cases_Bool (blank b)) in
     cond-false (blank b) _ _ u ∙ ap (follow (λ m. cuts k (p + m) (drop m (b ∷ t))) p (b ∷ t)) e
 determined _ _ _ _ (foreign p [] c r h first b n) zero l = absurd (omega arith)
 determined _ _ _ _ (foreign p [] c r h first b n) (suc k) l =
@@ -245,7 +240,7 @@ determined _ _ _ _ (foreign p (a ∷ u) c r h first b n) zero l = absurd (omega 
 determined _ _ _ _ (foreign p (a ∷ u) c r h first b n) (suc k) l =
     let t = u ++ (c ∷ r) in
     let e = stuck_seen (a ∷ u) c r h b n in
-    let off : blank a ≡ false = ⊎_elim (λ q. let s = blank_stuck a t q in let z : ◌≡◌ {A = ℕ} 0 1 = cc in absurd (omega arith)) (λ q. q) (cases_Bool (blank a)) in
+    let off : blank a ≡ false = ⊎_elim (λ q. let s = blank_stuck a t q in cc) (λ q. q) (cases_Bool (blank a)) in
     cond-false (blank a) _ _ off ∙ ap (follow (λ m. cuts k (p + m) (drop m (a ∷ t))) p (a ∷ t)) e
 
 -- the byte at which the twin stops is in the text

@@ -11,8 +11,8 @@ use Rattle.symbols.specs.declared.Base.TheVariants.{Binary, Octal, Hexadecimal}
 
 same_bytes : (v w : List ℕ) → same v w ≡ true → v ≡ w
 same_bytes [] [] e = refl
-same_bytes [] (b ∷ w) e = absurd (false≢true e)
-same_bytes (a ∷ v) [] e = absurd (false≢true e)
+same_bytes [] (b ∷ w) e = cc
+same_bytes (a ∷ v) [] e = cc
 same_bytes (a ∷ v) (b ∷ w) e =
     let h = and_parts (eqb a b) (same v w) e in
     let p = eqb-true a b h.0 in
@@ -22,7 +22,7 @@ same_bytes (a ∷ v) (b ∷ w) e =
 -- what is found is spelled so
 pub lookup_spells :
     {X : Type 0} (f : X → List ℕ) (w : List ℕ) (xs : List X) (x : X) → lookup f w xs ≡ Some x → w ≡ f x
-lookup_spells f w [] x e = let z : ◌≡◌ {A = ℕ} 0 1 = cc in absurd (omega arith)
+lookup_spells f w [] x e = cc
 lookup_spells f w (y ∷ ys) x e = go (λ q. lookup_spells f w ys x q) (same w (f y)) refl e
   where
     go :

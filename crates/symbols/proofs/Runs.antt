@@ -60,10 +60,6 @@ parted p (b ∷ t) = go (p b) refl (parted p t)
           stops = e;
         }
 
-pub each_append : (p : ℕ → Bool) (u v : List ℕ) → Each p u → Each p v → Each p (u ++ v)
-each_append p [] v h k = k
-each_append p (b ∷ u) v h k = (h.0, each_append p u v h.1 k)
-
 pub each_map : (p q : ℕ → Bool) → ((b : ℕ) → p b ≡ true → q b ≡ true) → (u : List ℕ) → Each p u → Each q u
 each_map p q f [] h = tt
 each_map p q f (b ∷ u) h = (f b h.0, each_map p q f u h.1)

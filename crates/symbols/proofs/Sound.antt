@@ -32,7 +32,7 @@ named_item : (w : List ℕ) → IsName w → IsItem (Some (named (keyword_of w))
 named_item w h = go (keyword_of w) refl
   where
     go : (o : Option Keyword) → keyword_of w ≡ o → IsItem (Some (named o)) w
-    go None e = (h, λ k s. let p = keyword_is w (Some k) s in let z : ◌≡◌ {A = ℕ} 0 1 = cc in omega arith)
+    go None e = (h, λ k s. let p = keyword_is w (Some k) s in cc)
     go (Some k) e = (h, lookup_spells spelling (uppers w) keywords k e)
 
 based_item :
@@ -181,7 +181,7 @@ quoted_sound (c ∷ x ∷ t) =
 
 starts_front : (v t : List ℕ) → starts v t ≡ true → (r : List ℕ) × (t ≡ v ++ r)
 starts_front [] t e = (t, refl)
-starts_front (a ∷ v) [] e = absurd (false≢true e)
+starts_front (a ∷ v) [] e = cc
 starts_front (a ∷ v) (b ∷ t) e =
     let h = and_parts (eqb a b) (starts v t) e in
     let p = eqb-true a b h.0 in
