@@ -8,7 +8,6 @@ use Rattle.std.proofs.lemmas.Fmt.{decimal_digit, decimal_nonempty, first_decimal
 use Rattle.std.proofs.lemmas.Str.Parse.{IsNumeralModel, numerals_by_fold}
 use Rattle.answers.specs.Declines.{number_of}
 use Rattle.answers.specs.declared.Decline.{Decline}
-use Rattle.answers.specs.declared.Decline.TheVariants.{TextTooLong, BadByte, UnfinishedItem, IntegerTooLarge, TooManyItems, Unexpected, TooDeep}
 use Rattle.answers.specs.Figures.{IsFigure, IsDecimal}
 
 read_on : ℕ → List ℕ → ℕ
@@ -31,14 +30,8 @@ decimal_of n h =
 pub five_at_most : (n : ℕ) → n ≤ 65536 → length (decimal n) ≤ 5
 five_at_most n h = length-decimal-le 5 n (omega arith) (omega arith) (omega arith)
 
-pub number_low : (d : Decline) → number_of d < 10
-number_low TextTooLong = omega arith
-number_low (BadByte p) = omega arith
-number_low (UnfinishedItem p) = omega arith
-number_low (IntegerTooLarge p) = omega arith
-number_low (TooManyItems p) = omega arith
-number_low (Unexpected p) = omega arith
-number_low (TooDeep p) = omega arith
+number_low : (d : Decline) → number_of d < 10
+number_low d = grind arith
 
 pub one_at_most : (d : Decline) → length (decimal (number_of d)) ≤ 1
 one_at_most d = omega (arith, ap length (decimal_digit (number_of d) (number_low d)))

@@ -209,27 +209,7 @@ sign_covers Same r = omega arith
 sign_covers Differs r = omega arith
 
 sign_self : (s : Separator) → see (sign s) ≡ found (Some (Mark s)) (length (sign s))
-sign_self LeftBracket = refl
-sign_self RightBracket = refl
-sign_self Star = refl
-sign_self Plus = refl
-sign_self Minus = refl
-sign_self Comma = refl
-sign_self Point = refl
-sign_self Slash = refl
-sign_self Colon = refl
-sign_self Semicolon = refl
-sign_self Less = refl
-sign_self Equal = refl
-sign_self Greater = refl
-sign_self Hash = refl
-sign_self Becomes = refl
-sign_self Divide = refl
-sign_self DoubleSlash = refl
-sign_self AtMost = refl
-sign_self AtLeast = refl
-sign_self Same = refl
-sign_self Differs = refl
+sign_self s = grind arith
 
 -- all items
 

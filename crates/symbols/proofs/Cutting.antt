@@ -1,7 +1,7 @@
 -- The twin of the cut meets the rules, and the rules determine its answer.
-use Rattle.std.proofs.Common.{◌≡◌, ℕ, zero, suc, ◌+◌, ◌<◌, ◌≤◌, Bool, true, false, eqb, List, [], ◌∷◌, ◌++◌, length, take, drop, Some, None, Option, sym, refl, ap, ◌∙◌, subst, ⊎_elim, arith}
+use Rattle.std.proofs.Common.{◌≡◌, ◌≢◌, ℕ, zero, suc, ◌+◌, ◌<◌, ◌≤◌, Bool, true, false, eqb, List, [], ◌∷◌, ◌++◌, length, take, drop, Some, None, Option, sym, refl, ap, ◌∙◌, subst, ⊎_elim, arith}
 use Rattle.std.proofs.lemmas.List.{take_at, drop_at, length-append, length-drop}
-use Rattle.std.proofs.lemmas.Bool.{cond-true, cond-false, cond_both, both_ways, cases_Bool, ltb-true, ltb-false, lt-ltb, le-ltb}
+use Rattle.std.proofs.lemmas.Bool.{cond-true, cond-false, cond_both, cases_Bool, ltb-true, ltb-false, lt-ltb, le-ltb}
 use Rattle.std.proofs.lemmas.Bool.Decides.{nat_tests}
 use Rattle.answers.specs.Declines.{place}
 use Rattle.answers.specs.declared.Decline.{Decline}
@@ -175,9 +175,8 @@ blank_stuck b t h = go (eqb b 9) (eqb b 10) refl refl
     go false true e f = at 10 (ten f) refl
     go false false e f = at 32 (last e f) refl
 
-unblank : (b : ℕ) (t : List ℕ) (f : Option Symbol) (n : ℕ) → see (b ∷ t) ≡ found f n → blank b ≡ false
-unblank b t f n e =
-    ⊎_elim (λ h. let s = blank_stuck b t h in cc) (λ h. h) (cases_Bool (blank b))
+unblank : (b : ℕ) (t : List ℕ) → see (b ∷ t) ≢ stuck 0 → blank b ≡ false
+unblank b t n = ⊎_elim (λ h. absurd (n (blank_stuck b t h))) (λ h. h) (cases_Bool (blank b))
 
 -- one step of the twin where an item stands
 step :
@@ -188,7 +187,7 @@ step :
 step k p [] f n l e = cc
 step zero p (b ∷ t) f n l e = absurd (omega arith)
 step (suc j) p (b ∷ t) f n l e =
-    (j, l, cond-false (blank b) _ _ (unblank b t f n e) ∙ ap (follow (λ m. cuts j (p + m) (drop m (b ∷ t))) p (b ∷ t)) e)
+    (j, l, cond-false (blank b) _ _ (unblank b t (λ s. cc)) ∙ ap (follow (λ m. cuts j (p + m) (drop m (b ∷ t))) p (b ∷ t)) e)
 
 small_not_large : (s : Symbol) (w : List ℕ) → IsItem (Some s) w → ((v : ℕ) → IsInteger w v → v ≤ max_integer) → too_large s w ≡ false
 small_not_large Name w h k = refl
@@ -231,8 +230,7 @@ determined _ _ _ _ (large p w r v h i m) k l =
 determined _ _ _ _ (unfinished p b t h c) zero l = absurd (omega arith)
 determined _ _ _ _ (unfinished p b t h c) (suc k) l =
     let e = short_seen (b ∷ t) h c in
-    let u : blank b ≡ false = ⊎_elim (λ q. let s = blank_stuck b t q in cc) (λ q. q) (cases_Bool (blank b)) in
-    cond-false (blank b) _ _ u ∙ ap (follow (λ m. cuts k (p + m) (drop m (b ∷ t))) p (b ∷ t)) e
+    cond-false (blank b) _ _ (unblank b t (λ s. cc)) ∙ ap (follow (λ m. cuts k (p + m) (drop m (b ∷ t))) p (b ∷ t)) e
 determined _ _ _ _ (foreign p [] c r h first b n) zero l = absurd (omega arith)
 determined _ _ _ _ (foreign p [] c r h first b n) (suc k) l =
     cond-false (blank c) _ _ (first refl) ∙ ap (follow (λ m. cuts k (p + m) (drop m (c ∷ r))) p (c ∷ r)) (stuck_seen [] c r h b n)
@@ -240,8 +238,7 @@ determined _ _ _ _ (foreign p (a ∷ u) c r h first b n) zero l = absurd (omega 
 determined _ _ _ _ (foreign p (a ∷ u) c r h first b n) (suc k) l =
     let t = u ++ (c ∷ r) in
     let e = stuck_seen (a ∷ u) c r h b n in
-    let off : blank a ≡ false = ⊎_elim (λ q. let s = blank_stuck a t q in cc) (λ q. q) (cases_Bool (blank a)) in
-    cond-false (blank a) _ _ off ∙ ap (follow (λ m. cuts k (p + m) (drop m (a ∷ t))) p (a ∷ t)) e
+    cond-false (blank a) _ _ (unblank a t (λ s. cc)) ∙ ap (follow (λ m. cuts k (p + m) (drop m (a ∷ t))) p (a ∷ t)) e
 
 -- the byte at which the twin stops is in the text
 pub stuck_within : (t : List ℕ) (n : ℕ) → see t ≡ stuck n → n < length t

@@ -1,8 +1,8 @@
 -- What the twin finds is an item there; where it finds none, the part before which it stops begins one, and no longer part does.
-use Rattle.std.proofs.Common.{◌≡◌, ℕ, ◌+◌, ◌<◌, Bool, true, false, cond, ◌&&◌, eqb, ltb, List, [], ◌∷◌, ◌++◌, length, drop, Some, None, Option, sym, refl, ap, ◌∙◌, subst, ⊎_elim, append_assoc, append-nil, arith}
+use Rattle.std.proofs.Common.{◌≡◌, ℕ, ◌+◌, ◌<◌, Bool, true, false, cond, ◌&&◌, eqb, ltb, List, [], ◌∷◌, ◌++◌, length, drop, Some, None, Option, sym, refl, ap, ◌∙◌, subst, ⊎_elim, append_assoc, append-nil, rules, arith}
 use Rattle.std.specs.List.{prefix_len}
 use Rattle.std.proofs.lemmas.List.{take_at, drop_at, length-append}
-use Rattle.std.proofs.lemmas.Bool.{cond-true, cond-false, cond_both, and_parts, and_left, and_from, ltb-true, eqb-true, false≢true, both_ways, cases_Bool}
+use Rattle.std.proofs.lemmas.Bool.{cond-true, cond-false, cond_both, and_parts, and_from, ltb-true, eqb-true, both_ways, cases_Bool}
 use Rattle.names.specs.Spelling.{uppers}
 use Rattle.symbols.specs.Bytes.{letter, digit, name_byte, space, string_byte, comment_byte, Each}
 use Rattle.symbols.specs.Spellings.{spelling, sign, base_word, radix, digit_in}
@@ -13,7 +13,7 @@ use Rattle.symbols.specs.declared.Keyword.{Keyword}
 use Rattle.symbols.specs.declared.Symbol.{Symbol}
 use Rattle.symbols.specs.declared.Symbol.TheVariants.{Integer, Text, Mark}
 use Rattle.symbols.specs.declared.Separator.{Separator}
-use Rattle.symbols.specs.declared.Separator.TheVariants.{LeftBracket, RightBracket, Star, Plus, Minus, Comma, Point, Slash, Colon, Semicolon, Less, Equal, Greater, Hash, Becomes, Divide, DoubleSlash, AtMost, AtLeast, Same, Differs}
+use Rattle.symbols.specs.declared.Separator.TheVariants.{LeftBracket}
 use Rattle.symbols.proofs.Lookup.{lookup_spells, keyword_is}
 use Rattle.symbols.proofs.Runs.{Stops, Parted, parted, leading_run, spaces}
 use Rattle.symbols.proofs.Bytewise.{letter_names}
@@ -219,70 +219,12 @@ off_byte a b t e =
     ⊎_elim (λ h. absurd (both_ways (starts (a ∷ []) (b ∷ t)) e (and_from (eqb a b) true h refl))) (λ h. h) (cases_Bool (eqb a b))
 
 off_any : (b : ℕ) (t v : List ℕ) → Off marks (b ∷ t) → Off marks (b ∷ v)
-off_any b t v h = (
-  and_left (eqb 58 b) (starts (drop 1 (sign Same)) v) (off_byte 58 b t h.1.1.1.1.1.1.1.1.1.1.1.1.1.1.1.0),
-  (
-    and_left (eqb 58 b) (starts (drop 1 (sign Differs)) v) (off_byte 58 b t h.1.1.1.1.1.1.1.1.1.1.1.1.1.1.1.0),
-    (
-      and_left (eqb 58 b) (starts (drop 1 (sign Becomes)) v) (off_byte 58 b t h.1.1.1.1.1.1.1.1.1.1.1.1.1.1.1.0),
-      (
-        and_left (eqb 58 b) (starts (drop 1 (sign Divide)) v) (off_byte 58 b t h.1.1.1.1.1.1.1.1.1.1.1.1.1.1.1.0),
-        (
-          and_left (eqb 47 b) (starts (drop 1 (sign DoubleSlash)) v) (off_byte 47 b t h.1.1.1.1.1.1.1.1.1.1.1.1.1.1.0),
-          (
-            and_left (eqb 60 b) (starts (drop 1 (sign AtMost)) v) (off_byte 60 b t h.1.1.1.1.1.1.1.1.1.1.1.1.1.1.1.1.1.0),
-            (
-              and_left (eqb 62 b) (starts (drop 1 (sign AtLeast)) v) (off_byte 62 b t h.1.1.1.1.1.1.1.1.1.1.1.1.1.1.1.1.1.1.1.0),
-              (
-                and_left (eqb 40 b) (starts (drop 1 (sign LeftBracket)) v) (off_byte 40 b t h.1.1.1.1.1.1.1.0),
-                (
-                  and_left (eqb 41 b) (starts (drop 1 (sign RightBracket)) v) (off_byte 41 b t h.1.1.1.1.1.1.1.1.0),
-                  (
-                    and_left (eqb 42 b) (starts (drop 1 (sign Star)) v) (off_byte 42 b t h.1.1.1.1.1.1.1.1.1.0),
-                    (
-                      and_left (eqb 43 b) (starts (drop 1 (sign Plus)) v) (off_byte 43 b t h.1.1.1.1.1.1.1.1.1.1.0),
-                      (
-                        and_left (eqb 45 b) (starts (drop 1 (sign Minus)) v) (off_byte 45 b t h.1.1.1.1.1.1.1.1.1.1.1.0),
-                        (
-                          and_left (eqb 44 b) (starts (drop 1 (sign Comma)) v) (off_byte 44 b t h.1.1.1.1.1.1.1.1.1.1.1.1.0),
-                          (
-                            and_left (eqb 46 b) (starts (drop 1 (sign Point)) v) (off_byte 46 b t h.1.1.1.1.1.1.1.1.1.1.1.1.1.0),
-                            (
-                              and_left (eqb 47 b) (starts (drop 1 (sign Slash)) v) (off_byte 47 b t h.1.1.1.1.1.1.1.1.1.1.1.1.1.1.0),
-                              (
-                                and_left (eqb 58 b) (starts (drop 1 (sign Colon)) v) (off_byte 58 b t h.1.1.1.1.1.1.1.1.1.1.1.1.1.1.1.0),
-                                (
-                                  and_left (eqb 59 b) (starts (drop 1 (sign Semicolon)) v) (off_byte 59 b t h.1.1.1.1.1.1.1.1.1.1.1.1.1.1.1.1.0),
-                                  (
-                                    and_left (eqb 60 b) (starts (drop 1 (sign Less)) v) (off_byte 60 b t h.1.1.1.1.1.1.1.1.1.1.1.1.1.1.1.1.1.0),
-                                    (
-                                      and_left (eqb 61 b) (starts (drop 1 (sign Equal)) v) (off_byte 61 b t h.1.1.1.1.1.1.1.1.1.1.1.1.1.1.1.1.1.1.0),
-                                      (
-                                        and_left (eqb 62 b) (starts (drop 1 (sign Greater)) v) (off_byte 62 b t h.1.1.1.1.1.1.1.1.1.1.1.1.1.1.1.1.1.1.1.0),
-                                        (
-                                          and_left (eqb 35 b) (starts (drop 1 (sign Hash)) v) (off_byte 35 b t h.1.1.1.1.1.1.1.1.1.1.1.1.1.1.1.1.1.1.1.1.0),
-                                          tt,
-                                        ),
-                                      ),
-                                    ),
-                                  ),
-                                ),
-                              ),
-                            ),
-                          ),
-                        ),
-                      ),
-                    ),
-                  ),
-                ),
-              ),
-            ),
-          ),
-        ),
-      ),
-    ),
-  ),
-)
+off_any b t v h =
+    let colon : eqb 58 b ≡ false = off_byte 58 b t h.1.1.1.1.1.1.1.1.1.1.1.1.1.1.1.0 in
+    let slash : eqb 47 b ≡ false = off_byte 47 b t h.1.1.1.1.1.1.1.1.1.1.1.1.1.1.0 in
+    let less : eqb 60 b ≡ false = off_byte 60 b t h.1.1.1.1.1.1.1.1.1.1.1.1.1.1.1.1.1.0 in
+    let more : eqb 62 b ≡ false = off_byte 62 b t h.1.1.1.1.1.1.1.1.1.1.1.1.1.1.1.1.1.1.1.0 in
+    simp (colon, slash, less, more) (search rules)
 
 -- the item of a byte that begins no other than a separator
 other_first :
