@@ -1,29 +1,31 @@
-use Rattle.std.proofs.Common.{◌≡◌, ℕ, ◌+◌, ◌<◌, ◌≤◌, Bool, true, false, ◌↔◌, IsTrue, List, [], ◌∷◌, ◌++◌, map, length, get_or, take, drop, Some, None, Option, MatchOption, refl, sym, ap, ◌∙◌, arith, Bor}
-use Rattle.std.specs.Char.{to_ascii_lowercase}
-use Rattle.std.specs.List.{AllWithin, HoldsAt}
-use mathlib.Core.List.{map-map}
+use Rattle.std.proofs.Common.{◌≡◌, ℕ, ◌+◌, ◌<◌, ◌≤◌, Bool, true, false, ◌&&◌, List, [], ◌∷◌, ◌++◌, map, length, get_or, take, drop, Some, None, Option, MatchOption, refl, sym, ap, ◌∙◌, arith, Bor}
+use Rattle.std.specs.Char.{eq_ignore_ascii_case}
+use Rattle.std.specs.List.{AllWithin, HoldsAt, list_all, zip}
 use Rattle.std.proofs.lemmas.Bool.Decides.{nat_tests}
 use Rattle.std.proofs.lemmas.List.{length-map, length-take-le, get_or-map, get_or-take, take-map, take-append-drop, drop_more}
 use Rattle.names.specs.Spelling.{upper, uppers, Says, SameName, First, FirstOf}
 
--- capitals and small letters tell the same bytes apart
-upper_lower : (b : ℕ) → upper (to_ascii_lowercase b) ≡ upper b
-upper_lower b = grind (arith, nat_tests)
+-- the two bytes are of one letter, or the same
+abbrev pub alike : ℕ × ℕ → Bool
+alike p = eq_ignore_ascii_case p.0 p.1
 
-lower_upper : (b : ℕ) → to_ascii_lowercase (upper b) ≡ to_ascii_lowercase b
-lower_upper b = grind (arith, nat_tests)
+alike_upper : (x y : ℕ) → alike (x, y) ≡ true → upper x ≡ upper y
+alike_upper x y e = grind (arith, nat_tests)
 
-uppers_lower : (a : List ℕ) → uppers (map to_ascii_lowercase a) ≡ uppers a
-uppers_lower a = map-map upper to_ascii_lowercase a ∙ simp upper_lower
+upper_alike : (x y : ℕ) → upper x ≡ upper y → alike (x, y) ≡ true
+upper_alike x y e = grind (arith, nat_tests)
 
-lowers_upper : (a : List ℕ) → map to_ascii_lowercase (uppers a) ≡ map to_ascii_lowercase a
-lowers_upper a = map-map to_ascii_lowercase upper a ∙ simp lower_upper
-
--- .. so it is the same to compare two spellings in either
-pub same_by_lowercase :
-    (r : Bool) (a b : List ℕ) → (IsTrue r ↔ (map to_ascii_lowercase a ≡ map to_ascii_lowercase b)) → Says r (SameName a b)
-same_by_lowercase true a b h = sym (uppers_lower a) ∙ ap uppers (h.0 refl) ∙ uppers_lower b
-same_by_lowercase false a b h = λ e. let t : false ≡ true = h.1 (sym (lowers_upper a) ∙ ap (map to_ascii_lowercase) e ∙ lowers_upper b) in cc
+-- two spellings of one length are of one name where their bytes are alike, each with each
+pub all_alike : (a b : List ℕ) → length a ≡ length b → Says (list_all alike (zip a b)) (SameName a b)
+all_alike [] [] e = refl
+all_alike [] (y ∷ b) e = absurd (omega arith)
+all_alike (x ∷ a) [] e = absurd (omega arith)
+all_alike (x ∷ a) (y ∷ b) e = go (alike (x, y)) refl (list_all alike (zip a b)) (all_alike a b (omega arith))
+  where
+    go : (p : Bool) → alike (x, y) ≡ p → (q : Bool) → Says q (SameName a b) → Says (p && q) (SameName (x ∷ a) (y ∷ b))
+    go true n true h = let u = alike_upper x y n in cc
+    go true n false h = λ s. h (let t : uppers a ≡ uppers b = cc in t)
+    go false n q h = λ s. let u : upper x ≡ upper y = cc in let t = upper_alike x y u in cc
 
 module _ {X : Type 0} (f : X → List ℕ) (w : List ℕ) where
   -- no entry before i has the name, and so no name before i is the one wanted
