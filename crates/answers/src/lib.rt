@@ -73,6 +73,7 @@ impl Decline {
     fn line(self, text: &[u8]) -> ArrayString<LINE_BYTES>
         ensures { Says self text.now result.bytes }
     {
+        // `write!` was tried: none of its clauses says when it succeeds, so the pieces are put in one by one.
         let place = self.place();
         let mut line = ArrayString::new();
         push_figures(&mut line, place.line(text));
@@ -89,6 +90,7 @@ impl Decline {
     pub fn write_line(self, text: &[u8], out: &mut [u8]) -> Option<usize>
         ensures { LineOf self text.now out.old out.new result }
     {
+        // The buffer is the caller's, since the call `judge` is lent one, and there is no heap.
         if out.len() < LINE_BYTES {
             return None;
         }

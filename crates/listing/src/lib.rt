@@ -11,6 +11,7 @@ use std::io::Write;
 
 /// Writes `KIND TEXT`, and the value of an integer.
 pub fn show_item(out: &mut impl Write, item: Item<'_>) -> io::Result<()> {
+    // The item's text is bytes, which `{}` does not print.
     let kind = item.kind();
     write!(out, "{kind} ")?;
     out.write_all(item.bytes())?;
