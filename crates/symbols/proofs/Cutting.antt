@@ -1,5 +1,5 @@
 -- The twin of the cut meets the rules, and the rules determine its answer.
-use Rattle.std.proofs.Common.{◌≡◌, ◌≢◌, ℕ, zero, suc, ◌+◌, ◌<◌, ◌≤◌, Bool, true, false, eqb, List, [], ◌∷◌, ◌++◌, length, take, drop, Some, None, Option, sym, refl, ap, ◌∙◌, subst, ⊎_elim, arith}
+use Rattle.std.proofs.Common.{◌≡◌, ◌≢◌, ℕ, zero, suc, ◌+◌, ◌<◌, ◌≤◌, true, false, List, [], ◌∷◌, ◌++◌, length, take, drop, Some, None, Option, sym, refl, ap, ◌∙◌, subst, ⊎_elim, arith}
 use Rattle.std.proofs.lemmas.List.{take_at, drop_at, length-append, length-drop}
 use Rattle.std.proofs.lemmas.Bool.{cond-true, cond-false, cond_both, cases_Bool, ltb-true, ltb-false, lt-ltb, le-ltb}
 use Rattle.std.proofs.lemmas.Bool.Decides.{nat_tests}
@@ -64,10 +64,7 @@ pub cut_short :
 cut_short p b t e = unfinished p b t (no_item_short (b ∷ t) e) (begins_short (b ∷ t) e)
 
 first_same : (u : List ℕ) (c b : ℕ) (r t : List ℕ) → b ∷ t ≡ u ++ (c ∷ r) → u ≡ [] → blank b ≡ false → blank c ≡ false
-first_same u c b r t e n h =
-    let k : b ∷ t ≡ c ∷ r = e ∙ ap (λ y. y ++ (c ∷ r)) n in
-    let q : b ≡ c = cc in
-    ap blank (sym q) ∙ h
+first_same u c b r t e n h = grind arith
 
 pub cut_stuck :
     (p b : ℕ) (t : List ℕ) (n : ℕ)
@@ -156,24 +153,7 @@ meets (suc k) p (b ∷ t) l =
 -- The rules determine the twin's answer.
 
 blank_stuck : (b : ℕ) (t : List ℕ) → blank b ≡ true → see (b ∷ t) ≡ stuck 0
-blank_stuck b t h = go (eqb b 9) (eqb b 10) refl refl
-  where
-    at : (n : ℕ) → b ≡ n → see (n ∷ t) ≡ stuck 0 → see (b ∷ t) ≡ stuck 0
-    at n e s = ap (λ x. see (x ∷ t)) e ∙ s
-
-    nine : eqb b 9 ≡ true → b ≡ 9
-    nine e = grind (arith, nat_tests)
-
-    ten : eqb b 10 ≡ true → b ≡ 10
-    ten e = grind (arith, nat_tests)
-
-    last : eqb b 9 ≡ false → eqb b 10 ≡ false → b ≡ 32
-    last e f = grind (arith, nat_tests)
-
-    go : (x y : Bool) → eqb b 9 ≡ x → eqb b 10 ≡ y → see (b ∷ t) ≡ stuck 0
-    go true y e f = at 9 (nine e) refl
-    go false true e f = at 10 (ten f) refl
-    go false false e f = at 32 (last e f) refl
+blank_stuck b t h = grind (arith, nat_tests)
 
 unblank : (b : ℕ) (t : List ℕ) → see (b ∷ t) ≢ stuck 0 → blank b ≡ false
 unblank b t n = ⊎_elim (λ h. absurd (n (blank_stuck b t h))) (λ h. h) (cases_Bool (blank b))

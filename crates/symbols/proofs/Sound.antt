@@ -1,8 +1,9 @@
 -- What the twin finds is an item there; where it finds none, the part before which it stops begins one, and no longer part does.
-use Rattle.std.proofs.Common.{◌≡◌, ℕ, ◌+◌, ◌<◌, Bool, true, false, cond, ◌&&◌, eqb, ltb, List, [], ◌∷◌, ◌++◌, length, drop, Some, None, Option, sym, refl, ap, ◌∙◌, subst, ⊎_elim, append_assoc, append-nil, rules, arith}
+use Rattle.std.proofs.Common.{◌≡◌, ℕ, ◌+◌, ◌<◌, Bool, true, false, cond, ◌&&◌, eqb, ltb, List, [], ◌∷◌, ◌++◌, length, drop, Some, None, Option, sym, refl, ap, ◌∙◌, subst, append_assoc, append-nil, rules, arith}
 use Rattle.std.specs.List.{prefix_len}
 use Rattle.std.proofs.lemmas.List.{take_at, drop_at, length-append}
-use Rattle.std.proofs.lemmas.Bool.{cond-true, cond-false, cond_both, and_parts, and_from, ltb-true, eqb-true, both_ways, cases_Bool}
+use Rattle.std.proofs.lemmas.Bool.{cond-true, cond-false, cond_both, and_parts, ltb-true, eqb-true}
+use Rattle.std.proofs.lemmas.Bool.Decides.{nat_tests}
 use Rattle.names.specs.Spelling.{uppers}
 use Rattle.symbols.specs.Bytes.{letter, digit, name_byte, space, string_byte, comment_byte, Each}
 use Rattle.symbols.specs.Spellings.{spelling, sign, base_word, radix, digit_in}
@@ -160,8 +161,7 @@ quote_begins : Begins (39 ∷ [])
 quote_begins = (65 ∷ 39 ∷ [], (Some Integer, (65, quoted 65 refl refl refl)))
 
 off_first : (c : ℕ) → string_byte c ≡ false → (v : List ℕ) → see (39 ∷ c ∷ v) ≡ stuck 1
-off_first c e [] = cond-false (string_byte c) _ _ e
-off_first c e (x ∷ v) = cond-false (string_byte c) _ _ e
+off_first c e v = grind (arith, nat_tests)
 
 quoted_sound : (t : List ℕ) → Sound (39 ∷ t) (see_quoted t)
 quoted_sound [] = quote_begins
@@ -199,9 +199,7 @@ Marked ss t short = ⊥
 Marked ss t (stuck n) = (n ≡ 0) × Off ss t
 
 more : (s : Separator) (ss : List Separator) (t : List ℕ) → starts (sign s) t ≡ false → (x : Sight) → Marked ss t x → Marked (s ∷ ss) t x
-more s ss t e (found f n) h = h
-more s ss t e short h = h
-more s ss t e (stuck n) h = (h.0, (e, h.1))
+more s ss t e x h = grind arith
 
 marked : (ss : List Separator) (t : List ℕ) → Marked ss t (see_mark ss t)
 marked [] t = (refl, tt)
@@ -215,8 +213,7 @@ see_off (s ∷ ss) t h = cond-false (starts (sign s) t) _ _ h.0 ∙ see_off ss t
 
 -- a separator of one byte is not there: no separator begins with that byte
 off_byte : (a b : ℕ) (t : List ℕ) → starts (a ∷ []) (b ∷ t) ≡ false → eqb a b ≡ false
-off_byte a b t e =
-    ⊎_elim (λ h. absurd (both_ways (starts (a ∷ []) (b ∷ t)) e (and_from (eqb a b) true h refl))) (λ h. h) (cases_Bool (eqb a b))
+off_byte a b t e = grind (arith, nat_tests)
 
 off_any : (b : ℕ) (t v : List ℕ) → Off marks (b ∷ t) → Off marks (b ∷ v)
 off_any b t v h =
