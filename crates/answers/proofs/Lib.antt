@@ -1,2 +1,2 @@
+pub mod Figures
 pub mod Fronts
-pub mod Writing

@@ -1,14 +1,15 @@
 //! What the calls answer: places in a text, and the declines with their numbers and places.
 #![tactic(auto)]
 
-mod figures;
-
-ghost use Rattle.std.specs.Prelude.{◌≡◌, ◌≤◌};
+ghost use Rattle.std.specs.Prelude.{◌≡◌, ◌+◌, ◌≤◌, ◌++◌, length, take, decimal};
+ghost use Rattle.std.specs.List.{suffix_len};
+ghost use Rattle.arrayvec.specs.ArrayString.{array_string_len};
 ghost use Rattle.answers.specs.Declines.{number_of, place_of};
-ghost use Rattle.answers.specs.Lines.{column_of, line_of};
-ghost use Rattle.answers.specs.Said.{LineOf};
+ghost use Rattle.answers.specs.Lines.{column_of, line_of, within_line};
+ghost use Rattle.answers.specs.Said.{LineOf, Says};
 
-use figures::{write_byte, write_number};
+use arrayvec::ArrayString;
+use itoa::Buffer;
 
 /// A place in a text: the number of bytes before it.
 #[derive(Clone, Copy, PartialEq, Eq, Debug)]
@@ -34,6 +35,9 @@ pub enum Decline {
     /// An item opens a depth of 33.
     TooDeep(Place),
 }
+
+/// How many bytes the line of a decline may have.
+pub const LINE_BYTES: usize = 16;
 
 impl Decline {
     pub fn number(self) -> u8
@@ -63,45 +67,64 @@ impl Decline {
             | Decline::TooDeep(place) => place,
         }
     }
-}
 
-/// How many bytes the line of a decline may have.
-pub const LINE_BYTES: usize = 16;
+    /// The line of the decline, `LINE:COLUMN: NUMBER` and a byte 10.
+    #[tactic(auto, using(crate::proofs::Figures::five_at_most, crate::proofs::Figures::one_at_most))]
+    fn line(self, text: &[u8]) -> ArrayString<LINE_BYTES>
+        ensures { Says self text.now result.bytes }
+    {
+        // `write!` was tried: none of its clauses says when it succeeds, so the pieces are put in one by one.
+        let place = self.place();
+        let mut line = ArrayString::new();
+        push_figures(&mut line, place.line(text));
+        line.push_str(":");
+        push_figures(&mut line, place.column(text));
+        line.push_str(": ");
+        push_figures(&mut line, u32::from(self.number()));
+        line.push_str("\n");
+        line
+    }
 
-impl Decline {
     /// Writes the line of the decline, `LINE:COLUMN: NUMBER` and a byte 10, to the front of the buffer, and answers its length. A
     /// buffer of fewer than 16 bytes is left as it is.
     pub fn write_line(self, text: &[u8], out: &mut [u8]) -> Option<usize>
         ensures { LineOf self text.now out.old out.new result }
     {
+        // The buffer is the caller's, since the call `judge` is lent one, and there is no heap.
         if out.len() < LINE_BYTES {
             return None;
         }
-        let place = self.place();
-        let line = write_number(place.line(text), out, 0);
-        let colon = write_byte(b':', out, line);
-        let column = write_number(place.column(text), out, colon);
-        let second = write_byte(b':', out, column);
-        let space = write_byte(b' ', out, second);
-        let number = write_number(self.number() as u32, out, space);
-        Some(write_byte(b'\n', out, number))
+        let line = self.line(text);
+        out[..line.len()].copy_from_slice(line.as_str().as_bytes());
+        Some(line.len())
     }
 }
 
+/// Puts the figures of the number behind the line.
+fn push_figures(line: &mut ArrayString<LINE_BYTES>, n: u32)
+    requires { array_string_len line.old + length (decimal n) ≤ LINE_BYTES }
+    ensures bytes { line.new.bytes ≡ line.old.bytes ++ decimal n }
+    ensures len { array_string_len line.new ≡ array_string_len line.old + length (decimal n) }
+{
+    line.push_str(Buffer::new().format(n));
+}
+
 impl Place {
+    /// The text before the place, or all of it where the place is past its end.
+    fn text_before(self, text: &[u8]) -> &[u8]
+        ensures is { result.now ≡ take self.offset text.now }
+        ensures few { length result.now ≤ self.offset }
+    {
+        &text[..text.len().min(usize::from(self.offset))]
+    }
+
     /// The line of the place in the text, from 1.
     pub fn line(self, text: &[u8]) -> u32
         ensures is { result ≡ line_of text.now self.offset }
         ensures few { result ≤ 65536 }
     {
-        let end = text.len().min(self.offset as usize);
-        let mut line = 1;
-        for i in 0..end {
-            if text[i] == b'\n' {
-                line += 1;
-            }
-        }
-        line
+        let before = self.text_before(text);
+        1 + before.iter().filter(|b| **b == b'\n').count() as u32
     }
 
     /// The column of the place in its line, from 1.
@@ -109,12 +132,14 @@ impl Place {
         ensures is { result ≡ column_of text.now self.offset }
         ensures few { result ≤ 65536 }
     {
-        let mut at = text.len().min(self.offset as usize);
-        let mut column = 1;
-        while at > 0 && text[at - 1] != b'\n' {
-            at -= 1;
-            column += 1;
-        }
-        column
+        1 + last_line_len(self.text_before(text)) as u32
     }
+}
+
+/// How many bytes stand behind the last byte 10 of the text.
+fn last_line_len(text: &[u8]) -> usize
+    ensures is { result ≡ suffix_len within_line text.now }
+    ensures few { result ≤ length text.now }
+{
+    text.iter().rev().take_while(|b| **b != b'\n').count()
 }

@@ -11,13 +11,14 @@ use std::io::Write;
 
 /// Writes `KIND TEXT`, and the value of an integer.
 pub fn show_item(out: &mut impl Write, item: Item<'_>) -> io::Result<()> {
+    // The item's text is bytes, which `{}` does not print.
     let kind = item.kind();
     write!(out, "{kind} ")?;
     out.write_all(item.bytes())?;
-    if let Item::Integer(bytes) = item {
-        if let Some(value) = integer_value(bytes) {
-            write!(out, " = {value}")?;
-        }
+    if let Item::Integer(bytes) = item
+        && let Some(value) = integer_value(bytes)
+    {
+        write!(out, " = {value}")?;
     }
     Ok(())
 }
@@ -25,8 +26,8 @@ pub fn show_item(out: &mut impl Write, item: Item<'_>) -> io::Result<()> {
 /// Writes the line of a decline of the text.
 pub fn show_decline(out: &mut impl Write, decline: Decline, text: &[u8]) -> io::Result<()> {
     let mut line = [0; LINE_BYTES];
-    match decline.write_line(text, &mut line) {
-        Some(length) => out.write_all(&line[0..length]),
-        None => Ok(()),
+    if let Some(length) = decline.write_line(text, &mut line) {
+        out.write_all(&line[..length])?;
     }
+    Ok(())
 }

@@ -24,21 +24,19 @@ fn escaped(b: u8) -> u8
 fn add(bytes: &mut Vec<u8>, text: &[u8]) -> Result<(), AllocError>
     ensures { IfOk result (λ _. bytes.new.items ≡ bytes.old.items ++ unescaped text.now) }
 {
-    let mut after = false;
-    for b in text {
-        if after {
-            bytes.push(escaped(*b))?;
-            after = false;
-        } else if *b == b'\\' {
-            after = true;
-        } else {
+    let mut rest = text.iter();
+    while let Some(b) = rest.next() {
+        if *b != b'\\' {
             bytes.push(*b)?;
+        } else if let Some(b) = rest.next() {
+            bytes.push(escaped(*b))?;
         }
     }
     Ok(())
 }
 
 /// The text of a line of the table.
+#[tactic(auto, using(crate::proofs::Escaping::repeat_more))]
 pub fn expand(heap: Global, line: &str) -> anyhow::Result<Vec<u8>>
     ensures { IfOk result (λ bytes. bytes.items ≡ line_text line.now) }
 {

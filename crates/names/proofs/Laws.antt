@@ -1,60 +1,72 @@
-use Rattle.std.proofs.Common.{◌≡◌, ℕ, ◌+◌, ◌<◌, ◌≤◌, List, [], ◌∷◌, ◌++◌, map, length, get_or, take, drop, None, sym, ap, ◌∙◌, arith}
-use Rattle.std.proofs.lemmas.List.{length-map, length-take-le, get_or-map, get_or-take, map_more, take_all, take-map, take-append-drop, drop_more}
-use Rattle.names.specs.Spelling.{upper, uppers, SameName, First}
+use Rattle.std.proofs.Common.{◌≡◌, ℕ, ◌+◌, ◌<◌, ◌≤◌, Bool, true, false, ◌&&◌, List, [], ◌∷◌, ◌++◌, map, length, get_or, take, drop, Some, None, Option, MatchOption, refl, sym, ap, ◌∙◌, arith, Bor}
+use Rattle.std.specs.Char.{eq_ignore_ascii_case}
+use Rattle.std.specs.List.{AllWithin, HoldsAt, list_all, zip}
+use Rattle.std.proofs.lemmas.Bool.Decides.{nat_tests}
+use Rattle.std.proofs.lemmas.List.{length-map, length-take-le, get_or-map, get_or-take, take-map, take-append-drop, drop_more}
+use Rattle.names.specs.Spelling.{upper, uppers, Says, SameName, First, FirstOf}
 
-pub length_same : (a b : List ℕ) → uppers a ≡ uppers b → length a ≡ length b
-length_same a b e = sym (length-map a upper) ∙ ap length e ∙ length-map b upper
+-- the two bytes are of one letter, or the same
+abbrev pub alike : ℕ × ℕ → Bool
+alike p = eq_ignore_ascii_case p.0 p.1
 
-pub place_same :
-    (a b : List ℕ) (i : ℕ) → i < length a → i < length b → uppers a ≡ uppers b → upper (get_or a i 0) ≡ upper (get_or b i 0)
-place_same a b i l m e = sym (get_or-map upper a i 0 0 l) ∙ ap (λ xs. get_or xs i 0) e ∙ get_or-map upper b i 0 0 m
+alike_upper : (x y : ℕ) → alike (x, y) ≡ true → upper x ≡ upper y
+alike_upper x y e = grind (arith, nat_tests)
 
-pub one_more :
-    (a b : List ℕ) (i : ℕ)
-    → i < length a
-    → i < length b
-    → uppers (take i a) ≡ uppers (take i b)
-    → upper (get_or a i 0) ≡ upper (get_or b i 0)
-    → uppers (take (i + 1) a) ≡ uppers (take (i + 1) b)
-one_more a b i l m e f = let p = map_more upper a i 0 l in let q = map_more upper b i 0 m in cc
+upper_alike : (x y : ℕ) → upper x ≡ upper y → alike (x, y) ≡ true
+upper_alike x y e = grind (arith, nat_tests)
 
-pub all_same :
-    (a b : List ℕ) (i : ℕ)
-    → length a ≤ i
-    → length a ≡ length b
-    → uppers (take i a) ≡ uppers (take i b)
-    → uppers a ≡ uppers b
-all_same a b i l e u =
-    let m : length b ≤ i = omega arith in
-    sym (ap uppers (take_all i a l)) ∙ u ∙ ap uppers (take_all i b m)
+-- two spellings of one length are of one name where their bytes are alike, each with each
+pub all_alike : (a b : List ℕ) → length a ≡ length b → Says (list_all alike (zip a b)) (SameName a b)
+all_alike [] [] e = refl
+all_alike [] (y ∷ b) e = absurd (omega arith)
+all_alike (x ∷ a) [] e = absurd (omega arith)
+all_alike (x ∷ a) (y ∷ b) e = go (alike (x, y)) refl (list_all alike (zip a b)) (all_alike a b (omega arith))
+  where
+    go : (p : Bool) → alike (x, y) ≡ p → (q : Bool) → Says q (SameName a b) → Says (p && q) (SameName (x ∷ a) (y ∷ b))
+    go true n true h = let u = alike_upper x y n in cc
+    go true n false h = λ s. h (let t : uppers a ≡ uppers b = cc in t)
+    go false n q h = λ s. let u : upper x ≡ upper y = cc in let t = upper_alike x y u in cc
 
--- the name at i of a list of entries
-pub name_there :
-    {X : Type 0} (f : X → List ℕ) (xs : List X) (i : ℕ) (x : X)
-    → i < length xs
-    → x ≡ get_or xs i x
-    → f x ≡ get_or (map f xs) i []
-name_there f xs i x l e = ap f e ∙ sym (get_or-map f xs i x [] l)
+module _ {X : Type 0} (f : X → List ℕ) (w : List ℕ) where
+  -- no entry before i has the name, and so no name before i is the one wanted
+  none_before :
+      (xs : List X) (i : ℕ)
+      → i ≤ length xs
+      → AllWithin (λ x. SameName (f x) w → ⊥) xs 0 i
+      → (k : ℕ)
+      → k < i
+      → SameName (get_or (map f xs) k []) w
+      → ⊥
+  none_before [] i l h k m e = absurd (omega arith)
+  none_before (x ∷ xs) i l h k m e = h k x (omega arith) m (ap uppers (sym (get_or-map f (x ∷ xs) k x [] (omega arith))) ∙ e)
 
--- the entry at i, with those before and behind it
-pub parted :
-    {X : Type 0} (xs : List X) (i : ℕ) (x : X) → i < length xs → x ≡ get_or xs i x → xs ≡ take i xs ++ (x ∷ drop (i + 1) xs)
-parted xs i x l e =
-    sym (take-append-drop i xs) ∙ ap (λ ys. take i xs ++ ys) (drop_more xs i x l ∙ ap (λ y. y ∷ drop (i + 1) xs) (sym e))
+  none_at_all : (xs : List X) → AllWithin (λ x. SameName (f x) w → ⊥) xs 0 (length xs) → First (map f xs) w None
+  none_at_all xs h k l = none_before xs (length xs) (omega arith) h k (omega (arith, length-map xs f))
 
-pub none_before :
-    {X : Type 0} (f : X → List ℕ) (xs : List X) (w : List ℕ) (i : ℕ)
-    → i < length xs
-    → ((k : ℕ) → k < i → SameName (get_or (map f xs) k []) w → ⊥)
-    → First (map f (take i xs)) w None
-none_before f xs w i l h k m e =
-    let n : k < i = omega (arith, length-map (take i xs) f, length-take-le i xs (omega arith)) in
-    h k n (ap uppers (sym (get_or-take i (map f xs) k [] n) ∙ ap (λ ys. get_or ys k []) (take-map f i xs)) ∙ e)
+  -- what `position` finds, and what `find` does
+  pub first_found :
+      (xs : List X) (r : Option ℕ)
+      → MatchOption r (AllWithin (λ x. SameName (f x) w → ⊥) xs 0 (length xs)) (λ i. (i < length xs) × HoldsAt (λ x. SameName (f x) w) xs i × AllWithin (λ x. SameName (f x) w → ⊥) xs 0 i)
+      → First (map f xs) w r
+  first_found xs None h = none_at_all xs h
+  first_found [] (Some i) h = absurd (omega (arith, h.0))
+  first_found (x ∷ xs) (Some i) h =
+      (omega (arith, h.0, length-map (x ∷ xs) f), ap uppers (get_or-map f (x ∷ xs) i x [] h.0) ∙ h.1 x, none_before (x ∷ xs) i (omega (arith, h.0)) h.2)
 
-pub name_same :
-    {X : Type 0} (f : X → List ℕ) (xs : List X) (w : List ℕ) (i : ℕ) (x : X)
-    → i < length xs
-    → x ≡ get_or xs i x
-    → SameName (get_or (map f xs) i []) w
-    → SameName (f x) w
-name_same f xs w i x l e h = ap uppers (name_there f xs i x l e) ∙ h
+  parted : (xs : List X) (i : ℕ) (x : X) → i < length xs → get_or xs i x ≡ x → xs ≡ take i xs ++ (x ∷ drop (i + 1) xs)
+  parted xs i x l e =
+      sym (take-append-drop i xs) ∙ ap (λ ys. take i xs ++ ys) (drop_more xs i x l ∙ ap (λ y. y ∷ drop (i + 1) xs) e)
+
+  pub entry_found :
+      (xs : List X) (r : Option (Bor X))
+      → MatchOption r (AllWithin (λ x. SameName (f x) w → ⊥) xs 0 (length xs)) (λ e. SameName (f e.now) w × (i : ℕ) × (i < length xs) × HoldsAt (λ x. x ≡ e.now) xs i × AllWithin (λ x. SameName (f x) w → ⊥) xs 0 i)
+      → FirstOf f xs w r
+  entry_found xs None h = none_at_all xs h
+  entry_found xs (Some e) h =
+      let i : ℕ = h.1 in
+      (take i xs, drop (i + 1) xs, parted xs i e.now h.2 (h.3 e.now), front i h.2 h.4, h.0)
+    where
+      front : (i : ℕ) → i < length xs → AllWithin (λ x. SameName (f x) w → ⊥) xs 0 i → First (map f (take i xs)) w None
+      front i l h k m e =
+          let n : k < i = omega (arith, length-map (take i xs) f, length-take-le i xs (omega arith)) in
+          none_before xs i (omega arith) h k n (ap uppers (sym (get_or-take i (map f xs) k [] n) ∙ ap (λ ys. get_or ys k []) (take-map f i xs)) ∙ e)

@@ -1,5 +1,5 @@
 -- Whatever stands behind an item, the twin finds an item that is no shorter there; and of the item alone it finds just that.
-use Rattle.std.proofs.Common.{◌≡◌, ℕ, suc, ◌+◌, ◌≤◌, Bool, true, false, cond, ◌&&◌, eqb, ltb, List, [], ◌∷◌, ◌++◌, length, take, drop, replicate, Some, None, Option, sym, refl, ap, ◌∙◌, subst, append_assoc, append-nil, arith}
+use Rattle.std.proofs.Common.{◌≡◌, ℕ, suc, ◌+◌, ◌≤◌, Bool, true, false, ◌&&◌, eqb, ltb, List, [], ◌∷◌, ◌++◌, length, take, drop, replicate, Some, None, Option, sym, refl, ap, ◌∙◌, subst, append_assoc, append-nil, arith}
 use Rattle.std.specs.List.{prefix_len}
 use Rattle.std.proofs.lemmas.List.{take_at, drop_at, length-append, length-replicate}
 use Rattle.std.proofs.lemmas.Bool.{cond-true, cond-false, cond_both, and_from, lt-ltb}
@@ -7,12 +7,11 @@ use Rattle.names.specs.Spelling.{uppers}
 use Rattle.symbols.specs.Bytes.{letter, digit, name_byte, space, string_byte, comment_byte, Each}
 use Rattle.symbols.specs.Spellings.{sign, base_word, digit_in}
 use Rattle.symbols.specs.Items.{IsName, IsInteger, decimal, based, quoted, Enclosed, IsItem}
-use Rattle.symbols.specs.See.{Sight, found, short, stuck, named, base_of, starts, see_name, see_based, see_behind, see_word, see_closing, see_enclosed, see_mark, marks, see}
+use Rattle.symbols.specs.See.{Sight, found, short, stuck, named, base_of, see_name, see_based, see_behind, see_word, see_closing, see_enclosed, see}
 use Rattle.symbols.specs.declared.Base.{Base}
 use Rattle.symbols.specs.declared.Symbol.{Symbol}
 use Rattle.symbols.specs.declared.Symbol.TheVariants.{Name, Integer, Text, Word, Mark}
 use Rattle.symbols.specs.declared.Separator.{Separator}
-use Rattle.symbols.specs.declared.Separator.TheVariants.{LeftBracket, RightBracket, Star, Plus, Minus, Comma, Point, Slash, Colon, Semicolon, Less, Equal, Greater, Hash, Becomes, Divide, DoubleSlash, AtMost, AtLeast, Same, Differs}
 use Rattle.symbols.proofs.Lookup.{keyword_is, base_is}
 use Rattle.symbols.proofs.Runs.{Stops, leading_front, leading_run, leading_all, each_map, each_space}
 use Rattle.symbols.proofs.Bytewise.{digit_no_letter, letter_names, letters_from_uppers, base_letters, base_some, digit_no_space}
@@ -23,9 +22,7 @@ Reaches n short = ⊥
 Reaches n (stuck m) = ⊥
 
 less : (m n : ℕ) (x : Sight) → m ≤ n → Reaches n x → Reaches m x
-less m n (found f k) l h = omega arith
-less m n short l h = h
-less m n (stuck k) l h = h
+less m n x l h = grind arith
 
 -- names
 
@@ -64,8 +61,7 @@ name_covers (b ∷ w) r h =
     (less (length (b ∷ w)) n _ l (behind_covers (take n t) n (drop n t) (base_of (take n t))))
 
 behind_nothing : (w : List ℕ) (n : ℕ) (o : Option Base) → see_behind w n [] o ≡ see_name w n
-behind_nothing w n None = refl
-behind_nothing w n (Some base) = refl
+behind_nothing w n o = grind arith
 
 name_self : (w : List ℕ) → IsName w → see w ≡ see_name w (length w)
 name_self [] h = absurd h
@@ -182,54 +178,11 @@ exactly w r f e = subst (Reaches (length w)) (sym e) (let l : length w ≤ lengt
 
 -- separators
 
-either : (n : ℕ) (b : Bool) (f : Option Symbol) (m : ℕ) (x : Sight) → n ≤ m → Reaches n x → Reaches n (cond b (found f m) x)
-either n b f m x l h = cond_both b (found f m) x (Reaches n) (λ _. l) (λ _. h)
-
 sign_covers : (s : Separator) (r : List ℕ) → Reaches (length (sign s)) (see (sign s ++ r))
-sign_covers LeftBracket r = omega arith
-sign_covers RightBracket r = omega arith
-sign_covers Star r = omega arith
-sign_covers Plus r = omega arith
-sign_covers Minus r = omega arith
-sign_covers Comma r = omega arith
-sign_covers Point r = omega arith
-sign_covers Slash r = either 1 (starts (sign DoubleSlash) (sign Slash ++ r)) (Some (Mark DoubleSlash)) 2 (see_mark (drop 5 marks) (sign Slash ++ r)) (omega arith) (omega arith)
-sign_covers Colon r = either 1 (starts (sign Same) (sign Colon ++ r)) (Some (Mark Same)) 3 (see_mark (drop 1 marks) (sign Colon ++ r)) (omega arith) (either 1 (starts (sign Differs) (sign Colon ++ r)) (Some (Mark Differs)) 3 (see_mark (drop 2 marks) (sign Colon ++ r)) (omega arith) (either 1 (starts (sign Becomes) (sign Colon ++ r)) (Some (Mark Becomes)) 2 (see_mark (drop 3 marks) (sign Colon ++ r)) (omega arith) (either 1 (starts (sign Divide) (sign Colon ++ r)) (Some (Mark Divide)) 2 (see_mark (drop 4 marks) (sign Colon ++ r)) (omega arith) (omega arith))))
-sign_covers Semicolon r = omega arith
-sign_covers Less r = either 1 (starts (sign AtMost) (sign Less ++ r)) (Some (Mark AtMost)) 2 (see_mark (drop 6 marks) (sign Less ++ r)) (omega arith) (omega arith)
-sign_covers Equal r = omega arith
-sign_covers Greater r = either 1 (starts (sign AtLeast) (sign Greater ++ r)) (Some (Mark AtLeast)) 2 (see_mark (drop 7 marks) (sign Greater ++ r)) (omega arith) (omega arith)
-sign_covers Hash r = omega arith
-sign_covers Becomes r = either 2 (starts (sign Same) (sign Becomes ++ r)) (Some (Mark Same)) 3 (see_mark (drop 1 marks) (sign Becomes ++ r)) (omega arith) (omega arith)
-sign_covers Divide r = omega arith
-sign_covers DoubleSlash r = omega arith
-sign_covers AtMost r = omega arith
-sign_covers AtLeast r = omega arith
-sign_covers Same r = omega arith
-sign_covers Differs r = omega arith
+sign_covers s r = grind arith
 
 sign_self : (s : Separator) → see (sign s) ≡ found (Some (Mark s)) (length (sign s))
-sign_self LeftBracket = refl
-sign_self RightBracket = refl
-sign_self Star = refl
-sign_self Plus = refl
-sign_self Minus = refl
-sign_self Comma = refl
-sign_self Point = refl
-sign_self Slash = refl
-sign_self Colon = refl
-sign_self Semicolon = refl
-sign_self Less = refl
-sign_self Equal = refl
-sign_self Greater = refl
-sign_self Hash = refl
-sign_self Becomes = refl
-sign_self Divide = refl
-sign_self DoubleSlash = refl
-sign_self AtMost = refl
-sign_self AtLeast = refl
-sign_self Same = refl
-sign_self Differs = refl
+sign_self s = grind arith
 
 -- all items
 

@@ -1,7 +1,7 @@
 -- The twin of the cut meets the rules, and the rules determine its answer.
-use Rattle.std.proofs.Common.{◌≡◌, ℕ, zero, suc, ◌+◌, ◌<◌, ◌≤◌, Bool, true, false, eqb, List, [], ◌∷◌, ◌++◌, length, take, drop, Some, None, Option, sym, refl, ap, ◌∙◌, subst, ⊎_elim, arith}
+use Rattle.std.proofs.Common.{◌≡◌, ◌≢◌, ℕ, zero, suc, ◌+◌, ◌<◌, ◌≤◌, true, false, List, [], ◌∷◌, ◌++◌, length, take, drop, Some, None, Option, sym, refl, ap, ◌∙◌, subst, ⊎_elim, arith}
 use Rattle.std.proofs.lemmas.List.{take_at, drop_at, length-append, length-drop}
-use Rattle.std.proofs.lemmas.Bool.{cond-true, cond-false, cond_both, both_ways, cases_Bool, ltb-true, ltb-false, lt-ltb, le-ltb}
+use Rattle.std.proofs.lemmas.Bool.{cond-true, cond-false, cond_both, cases_Bool, ltb-true, ltb-false, lt-ltb, le-ltb}
 use Rattle.std.proofs.lemmas.Bool.Decides.{nat_tests}
 use Rattle.answers.specs.Declines.{place}
 use Rattle.answers.specs.declared.Decline.{Decline}
@@ -64,10 +64,7 @@ pub cut_short :
 cut_short p b t e = unfinished p b t (no_item_short (b ∷ t) e) (begins_short (b ∷ t) e)
 
 first_same : (u : List ℕ) (c b : ℕ) (r t : List ℕ) → b ∷ t ≡ u ++ (c ∷ r) → u ≡ [] → blank b ≡ false → blank c ≡ false
-first_same u c b r t e n h =
-    let k : b ∷ t ≡ c ∷ r = e ∙ ap (λ y. y ++ (c ∷ r)) n in
-    let q : b ≡ c = cc in
-    ap blank (sym q) ∙ h
+first_same u c b r t e n h = grind arith
 
 pub cut_stuck :
     (p b : ℕ) (t : List ℕ) (n : ℕ)
@@ -90,13 +87,8 @@ some_byte t f n e =
     go h.front h.size s
   where
     go : (w : List ℕ) → length w ≡ n → see w ≡ found f (length w) → 0 < n
-    go [] m s = let z : ◌≡◌ {A = ℕ} 0 1 = cc in absurd (omega arith)
+    go [] m s = cc
     go (b ∷ w) m s = omega (arith, m)
-
-pub within_text : (t : List ℕ) (f : Option Symbol) (n : ℕ) → see t ≡ found f n → n ≤ length t
-within_text t f n e =
-    let h = taken t f n e in
-    omega (arith, h.size, ap length h.whole, length-append h.front h.rest)
 
 -- the value of an item that is not too large
 pub not_large : (s : Symbol) (t : List ℕ) (n : ℕ) → see t ≡ found (Some s) n → too_large s (take n t) ≡ false → (v : ℕ) → IsInteger (take n t) v → v ≤ max_integer
@@ -112,11 +104,11 @@ not_large s t n e h v i =
     whose g q = let p = self (Some Integer) (take n t) (v, i) in cc
 
     go : (g : Symbol) → see (take n t) ≡ found (Some g) (length (take n t)) → too_large g (take n t) ≡ false → v ≤ max_integer
-    go Name q x = let z = whose Name q in let y : ◌≡◌ {A = ℕ} 0 1 = cc in absurd (omega arith)
+    go Name q x = let z = whose Name q in cc
     go Integer q x = omega (arith, value, ltb-false max_integer (value_of (take n t)) x)
-    go Text q x = let z = whose Text q in let y : ◌≡◌ {A = ℕ} 0 1 = cc in absurd (omega arith)
-    go (Word k) q x = let z = whose (Word k) q in let y : ◌≡◌ {A = ℕ} 0 1 = cc in absurd (omega arith)
-    go (Mark m) q x = let z = whose (Mark m) q in let y : ◌≡◌ {A = ℕ} 0 1 = cc in absurd (omega arith)
+    go Text q x = let z = whose Text q in cc
+    go (Word k) q x = let z = whose (Word k) q in cc
+    go (Mark m) q x = let z = whose (Mark m) q in cc
 
 -- The twin meets the rules.
 
@@ -141,11 +133,11 @@ follows next p b t h k (found (Some s) n) e =
         → see (b ∷ t) ≡ found (Some s) n
         → too_large s (take n (b ∷ t)) ≡ true
         → Cut p (b ∷ t) [] (Some (IntegerTooLarge (place p)))
-    high Name e z = absurd (both_ways false refl z)
+    high Name e z = cc
     high Integer e z = cut_large p (b ∷ t) n e (ltb-true max_integer (value_of (take n (b ∷ t))) z)
-    high Text e z = absurd (both_ways false refl z)
-    high (Word w) e z = absurd (both_ways false refl z)
-    high (Mark m) e z = absurd (both_ways false refl z)
+    high Text e z = cc
+    high (Word w) e z = cc
+    high (Mark m) e z = cc
 follows next p b t h k short e = cut_short p b t e
 follows next p b t h k (stuck n) e = cut_stuck p b t n h e
 
@@ -161,28 +153,10 @@ meets (suc k) p (b ∷ t) l =
 -- The rules determine the twin's answer.
 
 blank_stuck : (b : ℕ) (t : List ℕ) → blank b ≡ true → see (b ∷ t) ≡ stuck 0
-blank_stuck b t h = go (eqb b 9) (eqb b 10) refl refl
-  where
-    at : (n : ℕ) → b ≡ n → see (n ∷ t) ≡ stuck 0 → see (b ∷ t) ≡ stuck 0
-    at n e s = ap (λ x. see (x ∷ t)) e ∙ s
+blank_stuck b t h = grind (arith, nat_tests)
 
-    nine : eqb b 9 ≡ true → b ≡ 9
-    nine e = grind (arith, nat_tests)
-
-    ten : eqb b 10 ≡ true → b ≡ 10
-    ten e = grind (arith, nat_tests)
-
-    last : eqb b 9 ≡ false → eqb b 10 ≡ false → b ≡ 32
-    last e f = grind (arith, nat_tests)
-
-    go : (x y : Bool) → eqb b 9 ≡ x → eqb b 10 ≡ y → see (b ∷ t) ≡ stuck 0
-    go true y e f = at 9 (nine e) refl
-    go false true e f = at 10 (ten f) refl
-    go false false e f = at 32 (last e f) refl
-
-unblank : (b : ℕ) (t : List ℕ) (f : Option Symbol) (n : ℕ) → see (b ∷ t) ≡ found f n → blank b ≡ false
-unblank b t f n e =
-    ⊎_elim (λ h. let s = blank_stuck b t h in let z : ◌≡◌ {A = ℕ} 0 1 = cc in absurd (omega arith)) (λ h. h) (cases_Bool (blank b))
+unblank : (b : ℕ) (t : List ℕ) → see (b ∷ t) ≢ stuck 0 → blank b ≡ false
+unblank b t n = ⊎_elim (λ h. absurd (n (blank_stuck b t h))) (λ h. h) (cases_Bool (blank b))
 
 -- one step of the twin where an item stands
 step :
@@ -190,10 +164,10 @@ step :
     → length t ≤ k
     → see t ≡ found f n
     → (j : ℕ) × (length t ≤ suc j) × (cuts k p t ≡ follow (λ m. cuts j (p + m) (drop m t)) p t (found f n))
-step k p [] f n l e = let z : ◌≡◌ {A = ℕ} 0 1 = cc in absurd (omega arith)
+step k p [] f n l e = cc
 step zero p (b ∷ t) f n l e = absurd (omega arith)
 step (suc j) p (b ∷ t) f n l e =
-    (j, l, cond-false (blank b) _ _ (unblank b t f n e) ∙ ap (follow (λ m. cuts j (p + m) (drop m (b ∷ t))) p (b ∷ t)) e)
+    (j, l, cond-false (blank b) _ _ (unblank b t (λ s. cc)) ∙ ap (follow (λ m. cuts j (p + m) (drop m (b ∷ t))) p (b ∷ t)) e)
 
 small_not_large : (s : Symbol) (w : List ℕ) → IsItem (Some s) w → ((v : ℕ) → IsInteger w v → v ≤ max_integer) → too_large s w ≡ false
 small_not_large Name w h k = refl
@@ -236,8 +210,7 @@ determined _ _ _ _ (large p w r v h i m) k l =
 determined _ _ _ _ (unfinished p b t h c) zero l = absurd (omega arith)
 determined _ _ _ _ (unfinished p b t h c) (suc k) l =
     let e = short_seen (b ∷ t) h c in
-    let u : blank b ≡ false = ⊎_elim (λ q. let s = blank_stuck b t q in let z : ◌≡◌ {A = ℕ} 0 1 = cc in absurd (omega arith)) (λ q. q) (cases_Bool (blank b)) in
-    cond-false (blank b) _ _ u ∙ ap (follow (λ m. cuts k (p + m) (drop m (b ∷ t))) p (b ∷ t)) e
+    cond-false (blank b) _ _ (unblank b t (λ s. cc)) ∙ ap (follow (λ m. cuts k (p + m) (drop m (b ∷ t))) p (b ∷ t)) e
 determined _ _ _ _ (foreign p [] c r h first b n) zero l = absurd (omega arith)
 determined _ _ _ _ (foreign p [] c r h first b n) (suc k) l =
     cond-false (blank c) _ _ (first refl) ∙ ap (follow (λ m. cuts k (p + m) (drop m (c ∷ r))) p (c ∷ r)) (stuck_seen [] c r h b n)
@@ -245,8 +218,7 @@ determined _ _ _ _ (foreign p (a ∷ u) c r h first b n) zero l = absurd (omega 
 determined _ _ _ _ (foreign p (a ∷ u) c r h first b n) (suc k) l =
     let t = u ++ (c ∷ r) in
     let e = stuck_seen (a ∷ u) c r h b n in
-    let off : blank a ≡ false = ⊎_elim (λ q. let s = blank_stuck a t q in let z : ◌≡◌ {A = ℕ} 0 1 = cc in absurd (omega arith)) (λ q. q) (cases_Bool (blank a)) in
-    cond-false (blank a) _ _ off ∙ ap (follow (λ m. cuts k (p + m) (drop m (a ∷ t))) p (a ∷ t)) e
+    cond-false (blank a) _ _ (unblank a t (λ s. cc)) ∙ ap (follow (λ m. cuts k (p + m) (drop m (a ∷ t))) p (a ∷ t)) e
 
 -- the byte at which the twin stops is in the text
 pub stuck_within : (t : List ℕ) (n : ℕ) → see t ≡ stuck n → n < length t

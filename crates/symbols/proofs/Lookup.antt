@@ -1,18 +1,17 @@
 -- What a list of bytes spells, found in a list of all that can be spelled.
 use Rattle.std.proofs.Common.{◌≡◌, ℕ, Bool, true, false, cond, eqb, List, [], ◌∷◌, Some, None, Option, refl, ap, ◌∙◌, arith}
-use Rattle.std.proofs.lemmas.Bool.{eqb-true, and_parts, false≢true}
+use Rattle.std.proofs.lemmas.Bool.{eqb-true, and_parts}
 use Rattle.names.specs.Spelling.{uppers}
 use Rattle.symbols.specs.See.{Spelt, same, lookup, keywords, bases, keyword_of, base_of}
 use Rattle.symbols.specs.Spellings.{spelling, base_word}
 use Rattle.symbols.specs.declared.Keyword.{Keyword}
 use Rattle.symbols.specs.declared.Keyword.TheVariants.{Abs, And, Array, Bin, Block, By, Byte, Code, Data, Do, Else, ElseIf, End, EndBlock, EndData, EndProc, Ent, Ext, For, Frac, Goto, Hex, If, Int, Label, Land, Length, Let, Lor, Mod, Mode, Nev, Not, Oct, Of, Option as OptionWord, Or, Proc, Real, Ref, Rep, Return, Rtl, Sha, Shl, Sla, Sll, Sra, Srl, Stack, Svc, Switch, Then, Title, To, Val, While}
 use Rattle.symbols.specs.declared.Base.{Base}
-use Rattle.symbols.specs.declared.Base.TheVariants.{Binary, Octal, Hexadecimal}
 
 same_bytes : (v w : List ℕ) → same v w ≡ true → v ≡ w
 same_bytes [] [] e = refl
-same_bytes [] (b ∷ w) e = absurd (false≢true e)
-same_bytes (a ∷ v) [] e = absurd (false≢true e)
+same_bytes [] (b ∷ w) e = cc
+same_bytes (a ∷ v) [] e = cc
 same_bytes (a ∷ v) (b ∷ w) e =
     let h = and_parts (eqb a b) (same v w) e in
     let p = eqb-true a b h.0 in
@@ -22,7 +21,7 @@ same_bytes (a ∷ v) (b ∷ w) e =
 -- what is found is spelled so
 pub lookup_spells :
     {X : Type 0} (f : X → List ℕ) (w : List ℕ) (xs : List X) (x : X) → lookup f w xs ≡ Some x → w ≡ f x
-lookup_spells f w [] x e = let z : ◌≡◌ {A = ℕ} 0 1 = cc in absurd (omega arith)
+lookup_spells f w [] x e = cc
 lookup_spells f w (y ∷ ys) x e = go (λ q. lookup_spells f w ys x q) (same w (f y)) refl e
   where
     go :
@@ -107,9 +106,7 @@ each_keyword Val = refl
 each_keyword While = refl
 
 each_base : (b : Base) → lookup base_word (base_word b) bases ≡ Some b
-each_base Binary = refl
-each_base Octal = refl
-each_base Hexadecimal = refl
+each_base b = grind arith
 
 pub keyword_is : (w : List ℕ) (o : Option Keyword) → Spelt spelling (uppers w) o → keyword_of w ≡ o
 keyword_is w o h = lookup_is spelling keywords each_keyword (uppers w) o h

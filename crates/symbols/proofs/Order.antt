@@ -43,9 +43,9 @@ laid _ _ _ _ (unfinished p b u h c) t l e = tt
 laid _ _ _ _ (foreign p u c r h f b n) t l e = tt
 
 go : (t : List ℕ) (r : Result (List Entry) Decline) → Verdict t r → (es : List Entry) → r ≡ Ok es → Laid t 0 es
-go t _ (too_long l) es e = let z : ◌≡◌ {A = ℕ} 0 1 = cc in absurd (omega arith)
-go t _ (declined xs d l c) es e = let z : ◌≡◌ {A = ℕ} 0 1 = cc in absurd (omega arith)
-go t _ (too_many xs x more l c n) es e = let z : ◌≡◌ {A = ℕ} 0 1 = cc in absurd (omega arith)
+go t _ (too_long l) es e = cc
+go t _ (declined xs d l c) es e = cc
+go t _ (too_many xs x more l c n) es e = cc
 go t _ (whole xs l c n) es e =
     let q : xs ≡ es = cc in
     subst (Laid t 0) q (laid 0 t xs None c t (omega arith) refl)

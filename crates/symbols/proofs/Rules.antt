@@ -53,7 +53,7 @@ pub record Stopped (n : ℕ) (t : List ℕ) : Type 0 where
   pub ends : Begins (front ++ (byte ∷ [])) → ⊥
 
 apart : (x : Sight) (f : Option Symbol) (m n : ℕ) → x ≡ found f m → x ≡ stuck n → ⊥
-apart x f m n p q = let z : ◌≡◌ {A = ℕ} 0 1 = cc in omega arith
+apart x f m n p q = cc
 
 pub stopped : (t : List ℕ) (n : ℕ) → see t ≡ stuck n → Stopped n t
 stopped t n e = go (subst (Sound t) e (sound t))

@@ -1,5 +1,5 @@
 -- Runs of bytes of one class at the front of a text.
-use Rattle.std.proofs.Common.{◌≡◌, ℕ, zero, suc, ◌+◌, Bool, true, false, List, [], ◌∷◌, ◌++◌, length, replicate, refl, ap, ◌∙◌, arith}
+use Rattle.std.proofs.Common.{◌≡◌, ℕ, zero, suc, ◌+◌, Bool, true, false, List, [], ◌∷◌, ◌++◌, length, replicate, append-nil, sym, refl, ap, ◌∙◌, arith}
 use Rattle.std.specs.List.{prefix_len}
 use Rattle.std.proofs.lemmas.Bool.{cond-true, cond-false, eqb-true}
 use Rattle.symbols.specs.Bytes.{Each, space}
@@ -31,10 +31,7 @@ pub leading_run : (p : ℕ → Bool) (u r : List ℕ) → Each p u → Stops p r
 leading_run p u r h s = omega (arith, leading_front p u r h, leading_stops p r s)
 
 pub leading_all : (p : ℕ → Bool) (u : List ℕ) → Each p u → prefix_len p u ≡ length u
-leading_all p [] h = refl
-leading_all p (b ∷ u) h =
-    let e = leading_all p u h.1 in
-    cond-true (p b) (1 + prefix_len p u) 0 h.0 ∙ omega (arith, e)
+leading_all p u h = ap (prefix_len p) (sym (append-nil u)) ∙ leading_run p u [] h tt
 
 pub parted : (p : ℕ → Bool) (t : List ℕ) → Parted p t
 parted p [] = record { front = []; rest = []; whole = refl; each = tt; count = refl; stops = tt }
@@ -59,10 +56,6 @@ parted p (b ∷ t) = go (p b) refl (parted p t)
           count = cond-false (p b) (1 + prefix_len p t) 0 e;
           stops = e;
         }
-
-pub each_append : (p : ℕ → Bool) (u v : List ℕ) → Each p u → Each p v → Each p (u ++ v)
-each_append p [] v h k = k
-each_append p (b ∷ u) v h k = (h.0, each_append p u v h.1 k)
 
 pub each_map : (p q : ℕ → Bool) → ((b : ℕ) → p b ≡ true → q b ≡ true) → (u : List ℕ) → Each p u → Each q u
 each_map p q f [] h = tt

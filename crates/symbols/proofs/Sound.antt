@@ -1,8 +1,9 @@
 -- What the twin finds is an item there; where it finds none, the part before which it stops begins one, and no longer part does.
-use Rattle.std.proofs.Common.{◌≡◌, ℕ, ◌+◌, ◌<◌, Bool, true, false, cond, ◌&&◌, eqb, ltb, List, [], ◌∷◌, ◌++◌, length, drop, Some, None, Option, sym, refl, ap, ◌∙◌, subst, ⊎_elim, append_assoc, append-nil, arith}
+use Rattle.std.proofs.Common.{◌≡◌, ℕ, ◌+◌, ◌<◌, Bool, true, false, cond, ◌&&◌, eqb, ltb, List, [], ◌∷◌, ◌++◌, length, drop, Some, None, Option, sym, refl, ap, ◌∙◌, subst, append_assoc, append-nil, rules, arith}
 use Rattle.std.specs.List.{prefix_len}
 use Rattle.std.proofs.lemmas.List.{take_at, drop_at, length-append}
-use Rattle.std.proofs.lemmas.Bool.{cond-true, cond-false, cond_both, and_parts, and_left, and_from, ltb-true, eqb-true, false≢true, both_ways, cases_Bool}
+use Rattle.std.proofs.lemmas.Bool.{cond-true, cond-false, cond_both, and_parts, ltb-true, eqb-true}
+use Rattle.std.proofs.lemmas.Bool.Decides.{nat_tests}
 use Rattle.names.specs.Spelling.{uppers}
 use Rattle.symbols.specs.Bytes.{letter, digit, name_byte, space, string_byte, comment_byte, Each}
 use Rattle.symbols.specs.Spellings.{spelling, sign, base_word, radix, digit_in}
@@ -13,7 +14,7 @@ use Rattle.symbols.specs.declared.Keyword.{Keyword}
 use Rattle.symbols.specs.declared.Symbol.{Symbol}
 use Rattle.symbols.specs.declared.Symbol.TheVariants.{Integer, Text, Mark}
 use Rattle.symbols.specs.declared.Separator.{Separator}
-use Rattle.symbols.specs.declared.Separator.TheVariants.{LeftBracket, RightBracket, Star, Plus, Minus, Comma, Point, Slash, Colon, Semicolon, Less, Equal, Greater, Hash, Becomes, Divide, DoubleSlash, AtMost, AtLeast, Same, Differs}
+use Rattle.symbols.specs.declared.Separator.TheVariants.{LeftBracket}
 use Rattle.symbols.proofs.Lookup.{lookup_spells, keyword_is}
 use Rattle.symbols.proofs.Runs.{Stops, Parted, parted, leading_run, spaces}
 use Rattle.symbols.proofs.Bytewise.{letter_names}
@@ -32,7 +33,7 @@ named_item : (w : List ℕ) → IsName w → IsItem (Some (named (keyword_of w))
 named_item w h = go (keyword_of w) refl
   where
     go : (o : Option Keyword) → keyword_of w ≡ o → IsItem (Some (named o)) w
-    go None e = (h, λ k s. let p = keyword_is w (Some k) s in let z : ◌≡◌ {A = ℕ} 0 1 = cc in omega arith)
+    go None e = (h, λ k s. let p = keyword_is w (Some k) s in cc)
     go (Some k) e = (h, lookup_spells spelling (uppers w) keywords k e)
 
 based_item :
@@ -160,8 +161,7 @@ quote_begins : Begins (39 ∷ [])
 quote_begins = (65 ∷ 39 ∷ [], (Some Integer, (65, quoted 65 refl refl refl)))
 
 off_first : (c : ℕ) → string_byte c ≡ false → (v : List ℕ) → see (39 ∷ c ∷ v) ≡ stuck 1
-off_first c e [] = cond-false (string_byte c) _ _ e
-off_first c e (x ∷ v) = cond-false (string_byte c) _ _ e
+off_first c e v = grind (arith, nat_tests)
 
 quoted_sound : (t : List ℕ) → Sound (39 ∷ t) (see_quoted t)
 quoted_sound [] = quote_begins
@@ -181,7 +181,7 @@ quoted_sound (c ∷ x ∷ t) =
 
 starts_front : (v t : List ℕ) → starts v t ≡ true → (r : List ℕ) × (t ≡ v ++ r)
 starts_front [] t e = (t, refl)
-starts_front (a ∷ v) [] e = absurd (false≢true e)
+starts_front (a ∷ v) [] e = cc
 starts_front (a ∷ v) (b ∷ t) e =
     let h = and_parts (eqb a b) (starts v t) e in
     let p = eqb-true a b h.0 in
@@ -199,9 +199,7 @@ Marked ss t short = ⊥
 Marked ss t (stuck n) = (n ≡ 0) × Off ss t
 
 more : (s : Separator) (ss : List Separator) (t : List ℕ) → starts (sign s) t ≡ false → (x : Sight) → Marked ss t x → Marked (s ∷ ss) t x
-more s ss t e (found f n) h = h
-more s ss t e short h = h
-more s ss t e (stuck n) h = (h.0, (e, h.1))
+more s ss t e x h = grind arith
 
 marked : (ss : List Separator) (t : List ℕ) → Marked ss t (see_mark ss t)
 marked [] t = (refl, tt)
@@ -215,74 +213,15 @@ see_off (s ∷ ss) t h = cond-false (starts (sign s) t) _ _ h.0 ∙ see_off ss t
 
 -- a separator of one byte is not there: no separator begins with that byte
 off_byte : (a b : ℕ) (t : List ℕ) → starts (a ∷ []) (b ∷ t) ≡ false → eqb a b ≡ false
-off_byte a b t e =
-    ⊎_elim (λ h. absurd (both_ways (starts (a ∷ []) (b ∷ t)) e (and_from (eqb a b) true h refl))) (λ h. h) (cases_Bool (eqb a b))
+off_byte a b t e = grind (arith, nat_tests)
 
 off_any : (b : ℕ) (t v : List ℕ) → Off marks (b ∷ t) → Off marks (b ∷ v)
-off_any b t v h = (
-  and_left (eqb 58 b) (starts (drop 1 (sign Same)) v) (off_byte 58 b t h.1.1.1.1.1.1.1.1.1.1.1.1.1.1.1.0),
-  (
-    and_left (eqb 58 b) (starts (drop 1 (sign Differs)) v) (off_byte 58 b t h.1.1.1.1.1.1.1.1.1.1.1.1.1.1.1.0),
-    (
-      and_left (eqb 58 b) (starts (drop 1 (sign Becomes)) v) (off_byte 58 b t h.1.1.1.1.1.1.1.1.1.1.1.1.1.1.1.0),
-      (
-        and_left (eqb 58 b) (starts (drop 1 (sign Divide)) v) (off_byte 58 b t h.1.1.1.1.1.1.1.1.1.1.1.1.1.1.1.0),
-        (
-          and_left (eqb 47 b) (starts (drop 1 (sign DoubleSlash)) v) (off_byte 47 b t h.1.1.1.1.1.1.1.1.1.1.1.1.1.1.0),
-          (
-            and_left (eqb 60 b) (starts (drop 1 (sign AtMost)) v) (off_byte 60 b t h.1.1.1.1.1.1.1.1.1.1.1.1.1.1.1.1.1.0),
-            (
-              and_left (eqb 62 b) (starts (drop 1 (sign AtLeast)) v) (off_byte 62 b t h.1.1.1.1.1.1.1.1.1.1.1.1.1.1.1.1.1.1.1.0),
-              (
-                and_left (eqb 40 b) (starts (drop 1 (sign LeftBracket)) v) (off_byte 40 b t h.1.1.1.1.1.1.1.0),
-                (
-                  and_left (eqb 41 b) (starts (drop 1 (sign RightBracket)) v) (off_byte 41 b t h.1.1.1.1.1.1.1.1.0),
-                  (
-                    and_left (eqb 42 b) (starts (drop 1 (sign Star)) v) (off_byte 42 b t h.1.1.1.1.1.1.1.1.1.0),
-                    (
-                      and_left (eqb 43 b) (starts (drop 1 (sign Plus)) v) (off_byte 43 b t h.1.1.1.1.1.1.1.1.1.1.0),
-                      (
-                        and_left (eqb 45 b) (starts (drop 1 (sign Minus)) v) (off_byte 45 b t h.1.1.1.1.1.1.1.1.1.1.1.0),
-                        (
-                          and_left (eqb 44 b) (starts (drop 1 (sign Comma)) v) (off_byte 44 b t h.1.1.1.1.1.1.1.1.1.1.1.1.0),
-                          (
-                            and_left (eqb 46 b) (starts (drop 1 (sign Point)) v) (off_byte 46 b t h.1.1.1.1.1.1.1.1.1.1.1.1.1.0),
-                            (
-                              and_left (eqb 47 b) (starts (drop 1 (sign Slash)) v) (off_byte 47 b t h.1.1.1.1.1.1.1.1.1.1.1.1.1.1.0),
-                              (
-                                and_left (eqb 58 b) (starts (drop 1 (sign Colon)) v) (off_byte 58 b t h.1.1.1.1.1.1.1.1.1.1.1.1.1.1.1.0),
-                                (
-                                  and_left (eqb 59 b) (starts (drop 1 (sign Semicolon)) v) (off_byte 59 b t h.1.1.1.1.1.1.1.1.1.1.1.1.1.1.1.1.0),
-                                  (
-                                    and_left (eqb 60 b) (starts (drop 1 (sign Less)) v) (off_byte 60 b t h.1.1.1.1.1.1.1.1.1.1.1.1.1.1.1.1.1.0),
-                                    (
-                                      and_left (eqb 61 b) (starts (drop 1 (sign Equal)) v) (off_byte 61 b t h.1.1.1.1.1.1.1.1.1.1.1.1.1.1.1.1.1.1.0),
-                                      (
-                                        and_left (eqb 62 b) (starts (drop 1 (sign Greater)) v) (off_byte 62 b t h.1.1.1.1.1.1.1.1.1.1.1.1.1.1.1.1.1.1.1.0),
-                                        (
-                                          and_left (eqb 35 b) (starts (drop 1 (sign Hash)) v) (off_byte 35 b t h.1.1.1.1.1.1.1.1.1.1.1.1.1.1.1.1.1.1.1.1.0),
-                                          tt,
-                                        ),
-                                      ),
-                                    ),
-                                  ),
-                                ),
-                              ),
-                            ),
-                          ),
-                        ),
-                      ),
-                    ),
-                  ),
-                ),
-              ),
-            ),
-          ),
-        ),
-      ),
-    ),
-  ),
-)
+off_any b t v h =
+    let colon : eqb 58 b ≡ false = off_byte 58 b t h.1.1.1.1.1.1.1.1.1.1.1.1.1.1.1.0 in
+    let slash : eqb 47 b ≡ false = off_byte 47 b t h.1.1.1.1.1.1.1.1.1.1.1.1.1.1.0 in
+    let less : eqb 60 b ≡ false = off_byte 60 b t h.1.1.1.1.1.1.1.1.1.1.1.1.1.1.1.1.1.0 in
+    let more : eqb 62 b ≡ false = off_byte 62 b t h.1.1.1.1.1.1.1.1.1.1.1.1.1.1.1.1.1.1.1.0 in
+    simp (colon, slash, less, more) (search rules)
 
 -- the item of a byte that begins no other than a separator
 other_first :

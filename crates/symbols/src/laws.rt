@@ -4,6 +4,7 @@ ghost use Rattle.symbols.specs.Items.{IsInteger};
 ghost use Rattle.symbols.specs.Laws.{BinIs, Bound, HexIs, InOrder, OneAnswer, OneMeaning, SameIs};
 
 /// How many answers the rules give to a text, whatever text it is.
+#[tactic(auto, using(crate::proofs::Examples::one_answer))]
 pub fn answers_to_a_text() -> u8
     ensures { (result ≡ 1) × (OneAnswer) }
 {
@@ -12,6 +13,7 @@ pub fn answers_to_a_text() -> u8
 }
 
 /// How many symbols an item can be of, and how many values an integer can have.
+#[tactic(auto, using(crate::proofs::Examples::one_meaning))]
 pub fn meanings_of_an_item() -> u8
     ensures { (result ≡ 1) × (OneMeaning) }
 {
@@ -20,6 +22,7 @@ pub fn meanings_of_an_item() -> u8
 }
 
 /// How many items of an accepted text can cover a byte of it: they stand one behind the other, each as its symbol is spelled.
+#[tactic(auto, using(crate::proofs::Order::in_order))]
 pub fn items_at_a_byte() -> u8
     ensures { (result ≡ 1) × (InOrder) }
 {
@@ -42,6 +45,7 @@ pub fn largest_integer() -> u16
 }
 
 /// How many items `:=:` is.
+#[tactic(auto, using(crate::proofs::Examples::same_is))]
 pub fn items_of_same() -> usize
     ensures { SameIs result }
 {
@@ -57,6 +61,7 @@ pub fn value_of_hex() -> u16
 }
 
 /// How many items `BIN 2` is.
+#[tactic(auto, using(crate::proofs::Examples::bin_is))]
 pub fn items_of_bin() -> usize
     ensures { BinIs result }
 {

@@ -7,7 +7,7 @@ pub mod laws;
 use answers::Place;
 
 /// The words that no identifier may be.
-#[derive(Clone, Copy)]
+#[derive(Clone, Copy, PartialEq, Eq, Debug)]
 pub enum Keyword {
     Abs,
     And,
@@ -69,7 +69,7 @@ pub enum Keyword {
 }
 
 /// Punctuation and operators.
-#[derive(Clone, Copy)]
+#[derive(Clone, Copy, PartialEq, Eq, Debug)]
 pub enum Separator {
     /// `(`
     LeftBracket,
@@ -116,7 +116,7 @@ pub enum Separator {
 }
 
 /// What an item counts as: identifiers, integers and strings each alike, every keyword and separator for itself.
-#[derive(Clone, Copy)]
+#[derive(Clone, Copy, PartialEq, Eq, Debug)]
 pub enum Symbol {
     Name,
     Integer,
@@ -126,7 +126,7 @@ pub enum Symbol {
 }
 
 /// The bases that a word in front of an integer's digits names.
-#[derive(Clone, Copy)]
+#[derive(Clone, Copy, PartialEq, Eq, Debug)]
 pub enum Base {
     Binary,
     Octal,
@@ -134,7 +134,7 @@ pub enum Base {
 }
 
 /// An item in the table of a text's items: its symbol, its first place and the place behind it.
-#[derive(Clone, Copy)]
+#[derive(Clone, Copy, PartialEq, Eq, Debug)]
 pub struct Entry {
     pub symbol: Symbol,
     pub start: Place,

@@ -1,19 +1,14 @@
-use Rattle.std.proofs.Common.{sym, ◌∙◌, arith}
+use Rattle.std.proofs.Common.{◌≡◌, sym, subst, rules, tests}
+use Rattle.std.specs.List.{list_all, zip}
+use Rattle.std.proofs.lemmas.Iterator.{YieldsList-from_slice, YieldsList-from_zip}
+use Rattle.std.proofs.lemmas.Iterator.Search.{all_from_yields_List}
+use Rattle.names.specs.Spelling.{Says, SameName}
+use Rattle.names.proofs.Laws.{alike, all_alike}
 use Rattle.names.proofs.same_name.Goals as goal
-use Rattle.names.proofs.Laws.{length_same, place_same, one_more, all_same}
 
 pub returns-then-a-b : goal.returns-then-a-b
-returns-then-a-b c e = omega (arith, length_same _ _ e)
-
-pub returns-then-upper_of : goal.returns-then-upper_of
-returns-then-upper_of c e =
-    c.if-upper_of.true
-    (c.upper_of.ensures ∙ place_same c.args.a.now c.args.b.now c.loop-i.i (omega arith) (omega arith) e ∙ sym c.upper_of-in-loop-i.ensures)
-
-pub loop-i-preserved : goal.loop-i-preserved
-loop-i-preserved c =
-    one_more c.args.a.now c.args.b.now c.loop-i.i (omega arith) (omega arith) c.loop-i.invariant
-    (sym c.upper_of.ensures ∙ c.if-upper_of.false ∙ c.upper_of-in-loop-i.ensures)
-
-pub returns : goal.returns
-returns c = all_same c.args.a.now c.args.b.now c.loop-i.i (omega arith) c.if-a-b.false c.loop-i.invariant
+returns-then-a-b c =
+    let a = c.args.a.now in
+    let b = c.args.b.now in
+    let r : c.all.result ≡ list_all alike (zip a b) = all_from_yields_List alike c.all.new.self _ c.all.result c.all.ensures.ran (YieldsList-from_zip (YieldsList-from_slice a cc) (YieldsList-from_slice b cc)) (λ x t q k. search (rules, tests)) in
+    subst (λ t. Says t (SameName a b)) (sym r) (all_alike a b c.if-a-b.true)
