@@ -21,12 +21,12 @@ impl<'t> Item<'t> {
         ensures { result.now ≡ bytes_of self.entry }
     {
         match self {
-            Item::Name(bytes) => bytes,
-            Item::Word(_, bytes) => bytes,
-            Item::Integer(bytes) => bytes,
-            Item::Text(bytes) => bytes,
-            Item::Mark(_, bytes) => bytes,
-            Item::Comment(bytes) => bytes,
+            Item::Name(bytes)
+            | Item::Word(_, bytes)
+            | Item::Integer(bytes)
+            | Item::Text(bytes)
+            | Item::Mark(_, bytes)
+            | Item::Comment(bytes) => bytes,
         }
     }
 
@@ -60,7 +60,7 @@ impl<'t> Item<'t> {
 }
 
 /// Why no item stands at the front of a text.
-#[derive(Clone, Copy)]
+#[derive(Clone, Copy, PartialEq, Eq, Debug)]
 pub enum Stop {
     /// The text ends inside an item.
     Short,
