@@ -1,10 +1,9 @@
 -- How the twin's parts come out where the code has measured a part of the text.
-use Rattle.std.proofs.Common.{◌≡◌, ℕ, ◌+◌, ◌-◌, ◌<◌, ◌≤◌, ◌⊎◌, min, ◌&&◌, ltb, List, [], ◌∷◌, length, get_or, take, drop, Some, Ok, Err, Option, Result, MatchResult, IsOkAnd, sym, refl, ap, subst, ◌∙◌, ⊎_elim, arith}
+use Rattle.std.proofs.Common.{◌≡◌, ℕ, ◌+◌, ◌-◌, ◌<◌, ◌≤◌, ◌⊎◌, ◌&&◌, ltb, List, [], ◌∷◌, length, get_or, take, drop, Some, Ok, Err, Option, Result, MatchResult, IsOkAnd, sym, refl, ap, subst, ◌∙◌, ⊎_elim, arith}
 use Rattle.std.specs.List.{prefix_len}
 use Rattle.std.specs.Borrow.{Bor}
-use Rattle.std.proofs.lemmas.List.{length-drop, length-take, length-take-le, nil_from_length, take_rest}
-use Rattle.std.proofs.lemmas.Bool.{cases_lt, lt-ltb, le-ltb, cond-true, cond-false, and_from, and_left, and_right}
-use Rattle.answers.proofs.Fronts.{take_min}
+use Rattle.std.proofs.lemmas.List.{length-take-le, take_rest}
+use Rattle.std.proofs.lemmas.Bool.{lt-ltb, le-ltb, cond-true, cond-false, and_from, and_left, and_right}
 use Rattle.symbols.proofs.Covers.{word_at as word_behind}
 use Rattle.symbols.specs.Bytes.{space, name_byte}
 use Rattle.symbols.specs.Spellings.{digit_in}
@@ -16,29 +15,6 @@ use Rattle.scanner.specs.declared.item.Item.{Item}
 use Rattle.scanner.specs.declared.item.Stop.{Stop}
 use Rattle.scanner.specs.declared.item.Stop.TheVariants.{Short, Stuck}
 use Rattle.scanner.specs.Seen.{Shows, Sees, Part, bytes_of, symbol_of}
-
--- the part from one place to another, where both are kept within the text
-pub clamped :
-    (t : List ℕ) (start end low high : ℕ)
-    → high ≡ min (length t) end
-    → low ≡ min high start
-    → take (high - low) (drop low t) ≡ take (end - start) (drop start t)
-clamped t start end low high e f = ⊎_elim inside outside (cases_lt start high)
-  where
-    inside : start < high → take (high - low) (drop low t) ≡ take (end - start) (drop start t)
-    inside l =
-        let s : low ≡ start = omega arith in
-        let m : high - start ≡ min (length (drop start t)) (end - start) = omega (arith, length-drop start t) in
-        ap (λ k. take (high - k) (drop k t)) s ∙ take_min (drop start t) (end - start) (high - start) m
-
-    nothing : (n : ℕ) → take n (drop start t) ≡ [] → take (high - low) (drop low t) ≡ [] → take (high - low) (drop low t) ≡ take n (drop start t)
-    nothing n p q = q ∙ sym p
-
-    outside : high ≤ start → take (high - low) (drop low t) ≡ take (end - start) (drop start t)
-    outside l =
-        nothing (end - start)
-        (nil_from_length (take (end - start) (drop start t)) (omega (arith, length-take (end - start) (drop start t), length-drop start t)))
-        (nil_from_length (take (high - low) (drop low t)) (omega (arith, length-take (high - low) (drop low t))))
 
 -- an item of the first n bytes
 pub shown :

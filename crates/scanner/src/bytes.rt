@@ -6,6 +6,7 @@ ghost use Rattle.scanner.specs.Classes.{holds};
 use symbols::Base;
 
 /// The bytes that a run may hold.
+// An enum and no closure: a contract names the class, and needs no law of a test that is passed.
 #[derive(Clone, Copy)]
 pub enum Class {
     Letter,

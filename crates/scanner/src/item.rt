@@ -31,6 +31,7 @@ impl<'t> Item<'t> {
     }
 
     /// What its kind is called.
+    // No `Display` of the item: what it covers is bytes, and a formatter takes text.
     pub fn kind(self) -> &'static str
         ensures { result.now ≡ kind_of self.entry }
     {

@@ -14,6 +14,7 @@ use symbols::Base;
 pub const MAX_INTEGER: u32 = 32_767;
 
 /// What a digit of any base stands for.
+// No `to_digit`: the class of the digits is known here, so its option would never be empty.
 fn digit_value(b: u8) -> u8
     ensures { result ≡ digit_value b }
 {

@@ -9,9 +9,9 @@ use symbols::{Base, Keyword};
 
 /// A reserved word in capitals, and what it stands for.
 #[derive(Clone, Copy)]
-struct Reserved<T>(&'static [u8], T);
+struct Reserved(&'static [u8], Keyword);
 
-impl<T> Named for Reserved<T> {
+impl Named for Reserved {
     ghost spelled = { λ w. w.0.now };
 
     fn name(&self) -> &[u8] {
@@ -19,7 +19,7 @@ impl<T> Named for Reserved<T> {
     }
 }
 
-const KEYWORDS: [Reserved<Keyword>; 57] = [
+const KEYWORDS: [Reserved; 57] = [
     Reserved(b"ABS", Keyword::Abs),
     Reserved(b"AND", Keyword::And),
     Reserved(b"ARRAY", Keyword::Array),
@@ -79,12 +79,6 @@ const KEYWORDS: [Reserved<Keyword>; 57] = [
     Reserved(b"WHILE", Keyword::While),
 ];
 
-const BASES: [Reserved<Base>; 3] = [
-    Reserved(b"BIN", Base::Binary),
-    Reserved(b"OCT", Base::Octal),
-    Reserved(b"HEX", Base::Hexadecimal),
-];
-
 /// The keyword that a name is, if it is one.
 pub fn keyword(name: &[u8]) -> Option<Keyword>
     ensures { Spelt spelling (uppers name.now) result }
@@ -97,6 +91,10 @@ pub fn keyword(name: &[u8]) -> Option<Keyword>
 pub fn base(name: &[u8]) -> Option<Base>
     ensures { Spelt base_word (uppers name.now) result }
 {
-    let Reserved(_, base) = entry(&BASES, name)?;
-    Some(*base)
+    match name {
+        [b'B' | b'b', b'I' | b'i', b'N' | b'n'] => Some(Base::Binary),
+        [b'O' | b'o', b'C' | b'c', b'T' | b't'] => Some(Base::Octal),
+        [b'H' | b'h', b'E' | b'e', b'X' | b'x'] => Some(Base::Hexadecimal),
+        _ => None,
+    }
 }
