@@ -29,10 +29,7 @@ fn is_blank(b: u8) -> bool
 fn is_too_large(item: Item<'_>) -> bool
     ensures { result ≡ large_of item.entry }
 {
-    match item {
-        Item::Integer(bytes) => integer_value(bytes).is_none(),
-        _ => false,
-    }
+    matches!(item, Item::Integer(bytes) if integer_value(bytes).is_none())
 }
 
 /// The place behind so many bytes of the text.
