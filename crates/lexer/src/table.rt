@@ -48,14 +48,14 @@ impl ItemTable {
     }
 
     /// Takes all items out of the table.
-    pub(crate) fn clear(&mut self)
+    pub fn clear(&mut self)
         ensures { items_of self.new ≡ [] }
     {
         self.count = 0;
     }
 
     /// Puts an item behind the others, or declines it where the table is full.
-    pub(crate) fn push(&mut self, entry: Entry) -> Result<(), Decline>
+    pub fn push(&mut self, entry: Entry) -> Result<(), Decline>
         ensures put { OnOk result (items_of self.new ≡ items_of self.old ++ (entry ∷ [])) }
         ensures full { OnErr result ((length (items_of self.old) ≡ 4096) × (items_of self.new ≡ items_of self.old)) }
         ensures decline { IfErr result (λ d. d ≡ Decline.TooManyItems entry.start) }
