@@ -11,8 +11,8 @@ fn rounds(text: &[u8], count: u32) -> u64 {
     let mut table = ItemTable::new();
     let mut total: u64 = 0;
     for _ in 0..count {
-        if let Ok(items) = cut(text, &mut table) {
-            total = total.wrapping_add(items as u64);
+        if cut(text, &mut table).is_ok() {
+            total = total.wrapping_add(table.items().len() as u64);
         }
     }
     total
@@ -20,11 +20,7 @@ fn rounds(text: &[u8], count: u32) -> u64 {
 
 fn main(rt: HostRuntime) -> anyhow::Result<()> {
     let mut args = env::args(&rt)?;
-    let _ = args.next();
-    let count = match args.next() {
-        Some(word) => word.parse::<u32>()?,
-        None => 1,
-    };
+    let count = args.nth(1).map_or(Ok(1), |word| word.parse::<u32>())?;
     let mut input = Vec::new(rt.alloc());
     let _ = rt.stdin().read_to_end(&mut input)?;
     let total = rounds(input.as_slice(), count);

@@ -24,8 +24,8 @@ fn main(rt: HostRuntime) -> io::Result<()> {
     let mut out = rt.stdout();
     let mut table = ItemTable::new();
     match cut(text, &mut table) {
-        Ok(count) => {
-            for entry in table.items(count) {
+        Ok(()) => {
+            for entry in table.items() {
                 show(&mut out, text, *entry)?;
             }
             Ok(())

@@ -7,22 +7,29 @@ use listing::table::expand;
 use listing::{show_decline, show_item};
 use std::io;
 use std::io::Write;
+use symbols::Entry;
 
 /// More items than this are only counted.
 const SHOWN: usize = 8;
 
+/// Writes the items, or their number.
+fn show_items(out: &mut impl Write, text: &[u8], items: &[Entry]) -> io::Result<()> {
+    if items.len() > SHOWN {
+        let count = items.len();
+        return write!(out, " {count} items");
+    }
+    for entry in items {
+        out.write_all(b" | ")?;
+        show_item(out, item_of(text, *entry))?;
+    }
+    Ok(())
+}
+
 /// Writes what comes of a text: its items, or their number, or the line of the decline.
 fn try_text(out: &mut impl Write, table: &mut ItemTable, text: &[u8]) -> io::Result<()> {
     match cut(text, table) {
-        Ok(count) => {
-            if count > SHOWN {
-                write!(out, " {count} items")?;
-            } else {
-                for entry in table.items(count) {
-                    out.write_all(b" | ")?;
-                    show_item(out, item_of(text, *entry))?;
-                }
-            }
+        Ok(()) => {
+            show_items(out, text, table.items())?;
             out.write_all(b"\n")
         }
         Err(decline) => {

@@ -1,6 +1,7 @@
 -- From the loop of the cut to its answer.
-use Rattle.std.proofs.Common.{◌≡◌, ℕ, ◌<◌, ◌≤◌, List, [], ◌∷◌, ◌++◌, length, take, drop, Some, None, Ok, Err, Option, sym, subst, append_assoc, append-nil, arith}
-use Rattle.std.proofs.lemmas.List.{drop_all, length-take}
+use Rattle.std.proofs.Common.{◌≡◌, ℕ, ◌<◌, ◌≤◌, List, [], ◌∷◌, ◌++◌, length, drop, Some, None, Ok, Err, Option, Result, OnOk, OnErr, IfErr, sym, ap, ◌∙◌, subst, append_assoc, append-nil, arith}
+use Rattle.std.proofs.lemmas.List.{drop_all, length-take, length_push}
+use Rattle.std.specs.Result.{result_and}
 use Rattle.answers.specs.Declines.{place}
 use Rattle.answers.specs.declared.Place.{Place}
 use Rattle.answers.specs.declared.Decline.{Decline}
@@ -10,7 +11,9 @@ use Rattle.symbols.specs.Laws.{Answer}
 use Rattle.symbols.specs.declared.Symbol.{Symbol}
 use Rattle.symbols.specs.declared.Entry.{Entry}
 use Rattle.symbols.proofs.Examples.{answer}
-use Rattle.lexer.specs.Steps.{Joins, Over}
+use Rattle.lexer.specs.Steps.{Answered, Joins, Over}
+use Rattle.lexer.specs.Tables.{items_of}
+use Rattle.lexer.specs.declared.table.ItemTable.{ItemTable}
 
 -- the items es stand before `at`
 abbrev pub Reached : List ℕ → ℕ → List Entry → Type 0
@@ -32,30 +35,21 @@ finished t at es l h =
     subst (λ y. Cut 0 t y None) (append-nil es)
     (h [] None (subst (λ u. Cut at u [] None) (sym (drop_all at t l)) (ended at)))
 
-pub many_answer :
-    (t : List ℕ) (at : ℕ) (front es : List Entry) (p : Place)
+pub room_answer :
+    (t : List ℕ) (at : ℕ) (front es : List Entry) (r : Result (Unit {0}) Decline)
     → length t ≤ 32768
     → length t ≤ at
-    → Over (Some p) front es
+    → length front ≤ max_items
+    → Over r front es
     → Reached t at es
-    → Answer t (Err (TooManyItems p))
-many_answer t at front es p l m o h =
+    → Answered t front r
+room_answer t at front es (Ok x) l m few o h =
+    let c = subst (λ y. Cut 0 t y None) o (finished t at es m h) in
+    answer t (Ok front) (whole front l c few)
+room_answer t at front es (Err d) l m few o h =
     let x = o.1 in
     let c = subst (λ y. Cut 0 t y None) x.2 (finished t at es m h) in
-    subst (λ q. Answer t (Err (TooManyItems q))) x.3
-    (answer t (Err (TooManyItems x.0.start)) (too_many front x.0 x.1 l c o.0))
-
-pub whole_answer :
-    (t : List ℕ) (at n : ℕ) (xs es : List Entry)
-    → length t ≤ 32768
-    → length t ≤ at
-    → n ≤ max_items
-    → Over None (take n xs) es
-    → Reached t at es
-    → Answer t (Ok (take n xs))
-whole_answer t at n xs es l m few o h =
-    let c = subst (λ y. Cut 0 t y None) o (finished t at es m h) in
-    answer t (Ok (take n xs)) (whole (take n xs) l c (omega (arith, length-take n xs)))
+    subst (λ y. Answer t (Err y)) (sym x.3) (answer t (Err (TooManyItems x.0.start)) (too_many front x.0 x.1 l c o.0))
 
 -- one item more
 pub reached_more :
@@ -72,3 +66,29 @@ reached_more t at end es f s p q e a b j h rest o c =
     let same : entry s at end ≡ x = cc in
     subst (λ y. Cut 0 t y o) (sym (append_assoc es (x ∷ []) rest))
     (subst (λ y. Cut 0 t (es ++ (y ∷ rest)) o) same (h (entry s at end ∷ rest) o (k rest o c)))
+
+-- what the table holds once it was asked to hold an item more
+pub put :
+    (x y r : Result (Unit {0}) Decline) (front after es : List Entry) (e : Entry)
+    → Over x front es
+    → y ≡ result_and x r
+    → OnOk r (after ≡ front ++ (e ∷ []))
+    → OnErr r ((length front ≡ 4096) × (after ≡ front))
+    → IfErr r (λ d. d ≡ TooManyItems e.start)
+    → length after ≤ 4096
+    → Over y after (es ++ (e ∷ []))
+put (Ok u) y (Ok v) front after es e o p a b z few =
+    subst (λ x. Over x after (es ++ (e ∷ []))) (sym p) (ap (λ xs. xs ++ (e ∷ [])) o ∙ sym a)
+put (Ok u) y (Err d) front after es e o p a b z few =
+    let n : length after ≡ max_items = cc in
+    subst (λ x. Over x after (es ++ (e ∷ []))) (sym p) (n, (e, [], ap (λ xs. xs ++ (e ∷ [])) (o ∙ sym b.1), z))
+put (Err d) y (Ok v) front after es e o p a b z few =
+    absurd (omega (arith, ap length a, length_push front e, o.0))
+put (Err d) y (Err f) front after es e o p a b z few =
+    let x = o.1.0 in
+    let n : length after ≡ max_items = cc in
+    let m : es ++ (e ∷ []) ≡ after ++ (x ∷ (o.1.1 ++ (e ∷ []))) = ap (λ xs. xs ++ (e ∷ [])) o.1.2 ∙ append_assoc front (x ∷ o.1.1) (e ∷ []) ∙ ap (λ xs. xs ++ (x ∷ (o.1.1 ++ (e ∷ [])))) (sym b.1) in
+    subst (λ z. Over z after (es ++ (e ∷ []))) (sym p) (n, (x, o.1.1 ++ (e ∷ []), m, o.1.3))
+
+pub few_items : (x : ItemTable) → length (items_of x) ≤ 4096
+few_items x = omega (arith, length-take x.count x.entries, x.few)

@@ -1,6 +1,6 @@
 -- One step of the cut, by the rules.
-use Rattle.std.proofs.Common.{◌≡◌, ℕ, ◌+◌, ◌<◌, ◌≤◌, true, false, ltb, List, [], length, get_or, take, drop, Some, None, Err, Option, sym, refl, ap, ◌∙◌, subst, arith}
-use Rattle.std.proofs.lemmas.List.{drop-drop, drop_more, length-drop}
+use Rattle.std.proofs.Common.{◌≡◌, ℕ, ◌+◌, ◌-◌, ◌<◌, ◌≤◌, true, false, ltb, List, [], length, get_or, take, drop, Some, None, Err, Option, Result, sym, refl, ap, ◌∙◌, subst, arith}
+use Rattle.std.proofs.lemmas.List.{drop-drop, drop_more, length-drop, take_rest}
 use Rattle.std.proofs.lemmas.Bool.{ltb-true, false≢true}
 use Rattle.answers.specs.Declines.{place}
 use Rattle.answers.specs.declared.Decline.TheVariants.{BadByte, UnfinishedItem, IntegerTooLarge}
@@ -21,6 +21,13 @@ use Rattle.lexer.specs.Steps.{Joins, reach, decline_of}
 pub blank_joins : (t : List ℕ) (at : ℕ) → at < length t → blank (get_or t at 0) ≡ true → Joins t at None (at + 1)
 blank_joins t at l h es o c =
     subst (λ u. Cut at u es o) (sym (drop_more t at 0 l)) (layout at (get_or t at 0) (drop (at + 1) t) es o h c)
+
+-- what is seen at the front of `&text[at..]`
+pub rest_seen :
+    (t : List ℕ) (at : ℕ) (r : Result Item Stop)
+    → Sees (take (length t - at) (drop at t)) (see (take (length t - at) (drop at t))) r
+    → Sees (drop at t) (see (drop at t)) r
+rest_seen t at r h = subst (λ u. Sees u (see u) r) (take_rest t at) h
 
 abbrev Fine : Option Symbol → List ℕ → Type 0
 Fine None w = Unit {0}
@@ -44,23 +51,23 @@ joins t at n None e h =
 joins t at n (Some s) e h =
     λ es o c. cut_item at (drop at t) s n es o e (not_large s (drop at t) n e h) (subst (λ u. Cut (at + n) u es o) (sym (drop-drop n at t)) c)
 
-pub item_joins :
-    (t : List ℕ) (at : ℕ) (i : Item)
-    → Shows (drop at t) (see (drop at t)) i
-    → large_of i ≡ false
-    → Joins t at (symbol_of i) (at + length (bytes_of i))
-item_joins t at i s h =
-    joins t at (length (bytes_of i)) (symbol_of i) s.seen (fine i (take (length (bytes_of i)) (drop at t)) s.front h)
-
-pub item_moves : (t : List ℕ) (at : ℕ) (i : Item) → Shows (drop at t) (see (drop at t)) i → at < at + length (bytes_of i)
-item_moves t at i s = omega (arith, some_byte (drop at t) (symbol_of i) (length (bytes_of i)) s.seen)
-
-pub item_fits :
-    (t : List ℕ) (at : ℕ) (i : Item)
+-- an item is passed
+pub item_stepped :
+    (t : List ℕ) (at : ℕ) (i : Item) (f : Option Symbol) (w : List ℕ)
     → at < length t
     → Shows (drop at t) (see (drop at t)) i
-    → at + length (bytes_of i) ≤ length t
-item_fits t at i l s = omega (arith, s.fits, length-drop at t)
+    → large_of i ≡ false
+    → f ≡ symbol_of i
+    → w ≡ bytes_of i
+    → (at < at + length w) × (at + length w ≤ length t) × Joins t at f (at + length w)
+item_stepped t at i f w l s h p q =
+    let n = length (bytes_of i) in
+    let m : length w ≡ n = ap length q in
+    let j = joins t at n (symbol_of i) s.seen (fine i (take n (drop at t)) s.front h) in (
+      omega (arith, some_byte (drop at t) (symbol_of i) n s.seen),
+      omega (arith, s.fits, length-drop at t),
+      subst (λ k. Joins t at f (at + k)) (sym m) (subst (λ g. Joins t at g (at + n)) (sym p) j),
+    )
 
 -- an integer that is too large
 large_is : (i : Item) → large_of i ≡ true → (symbol_of i ≡ Some IntegerSymbol) × (max_integer < value_of (bytes_of i))

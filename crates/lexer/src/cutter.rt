@@ -1,26 +1,26 @@
 //! The cut of a text into its items.
+ghost use Rattle.lexer.specs.Tables.{items_of};
 ghost use Rattle.lexer.specs.Steps.{Answered};
 
 use crate::steps::{place, step};
-use crate::table::{ItemTable, Tally};
+use crate::table::ItemTable;
 use answers::Decline;
 use symbols::Entry;
 
 /// How many bytes a text may have.
 pub const MAX_BYTES: usize = 32_768;
 
-/// Cuts the text into its items: they stand in the table, as many as the answer says.
-pub fn cut(text: &[u8], table: &mut ItemTable) -> Result<usize, Decline>
-    ensures { Answered text.now table.new.entries result }
+/// Cuts the text into its items, which then stand in the table.
+pub fn cut(text: &[u8], table: &mut ItemTable) -> Result<(), Decline>
+    ensures { Answered text.now (items_of table.new) result }
 {
     if text.len() > MAX_BYTES {
         return Err(Decline::TextTooLong);
     }
+    table.clear();
+    let mut room = Ok(());
     let mut at = 0;
-    let mut tally = Tally {
-        count: 0,
-        extra: None,
-    };
+    // No iterator of steps: it would be a struct with ghost members of its own, for this loop alone.
     while at < text.len() {
         let passed = step(text, at)?;
         if let Some(symbol) = passed.symbol {
@@ -29,12 +29,9 @@ pub fn cut(text: &[u8], table: &mut ItemTable) -> Result<usize, Decline>
                 start: place(at),
                 end: place(passed.end),
             };
-            tally = tally.add(&mut table.entries, entry);
+            room = room.and(table.push(entry));
         }
         at = passed.end;
     }
-    match tally.extra {
-        Some(place) => Err(Decline::TooManyItems(place)),
-        None => Ok(tally.count),
-    }
+    room
 }

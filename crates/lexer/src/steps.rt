@@ -22,23 +22,18 @@ pub struct Passed {
 fn is_blank(b: u8) -> bool
     ensures { result ≡ blank b }
 {
-    match char::from(b) {
-        '\t' | '\n' | ' ' => true,
-        _ => false,
-    }
+    matches!(b, b'\t' | b'\n' | b' ')
 }
 
 /// Is the item an integer that is too large?
 fn is_too_large(item: Item<'_>) -> bool
     ensures { result ≡ large_of item.entry }
 {
-    match item {
-        Item::Integer(bytes) => integer_value(bytes).is_none(),
-        _ => false,
-    }
+    matches!(item, Item::Integer(bytes) if integer_value(bytes).is_none())
 }
 
 /// The place behind so many bytes of the text.
+// No `TryFrom`: each place of a short text fits, so its error would never come.
 pub fn place(at: usize) -> Place
     requires { at < 2 ^ 16 }
     ensures { result ≡ place_at at }
@@ -70,15 +65,11 @@ pub fn step(text: &[u8], at: usize) -> Result<Passed, Decline>
         });
     }
     match next_item(&text[at..]) {
-        Ok(item) => {
-            if is_too_large(item) {
-                Err(Decline::IntegerTooLarge(place(at)))
-            } else {
-                let end = at + item.bytes().len();
-                let symbol = item.symbol();
-                Ok(Passed { symbol, end })
-            }
-        }
+        Ok(item) if is_too_large(item) => Err(Decline::IntegerTooLarge(place(at))),
+        Ok(item) => Ok(Passed {
+            symbol: item.symbol(),
+            end: at + item.bytes().len(),
+        }),
         Err(stop) => Err(declined(stop, at)),
     }
 }

@@ -1,28 +1,32 @@
 //! The table of a text's items.
-ghost use Rattle.std.specs.Prelude.{◌≡◌, ◌-◌, ◌≤◌, List, [], ◌∷◌, ◌++◌, length, take, drop, replicate, Some};
+ghost use Rattle.std.specs.Prelude.{◌≡◌, ◌-◌, ◌<◌, ◌≤◌, [], ◌∷◌, ◌++◌, length, take, drop, replicate, Some, OnOk, OnErr, IfErr};
 ghost use Rattle.scanner.specs.Seen.{bytes_of, symbol_of};
-ghost use Rattle.lexer.specs.Steps.{Holds};
 ghost use Rattle.symbols.specs.Cut.{covered, entry as entry_of};
-ghost use Rattle.symbols.specs.declared.Entry.{Entry};
 ghost use Rattle.symbols.specs.declared.Symbol.TheVariants.{Name};
 
-use answers::Place;
+use answers::{Decline, Place};
 use scanner::item::Item;
 use symbols::{Entry, Symbol};
 
 /// How many items a text may have, comments not counted.
 pub const MAX_ITEMS: usize = 4096;
 
-/// The items of a text, in their order: as many as `cut` answers, and what is behind them is free.
+/// The items of a text, in their order.
+// No `ArrayVec`: its `clear` writes a blank over each entry, and it hides the blanks that `new` promises.
 #[derive(Clone, Copy)]
 pub struct ItemTable {
-    pub entries: [Entry; 4096],
+    entries: [Entry; 4096],
+    count: usize,
+    ghost few: { count ≤ 4096 },
 }
 
 impl ItemTable {
+    ghost use Rattle.lexer.specs.Tables.{items_of};
+
     /// A table in which nothing stands yet.
     pub fn new() -> ItemTable
-        ensures { result.entries ≡ replicate 4096 (entry_of Name 0 0) }
+        ensures empty { items_of result ≡ [] }
+        ensures blank { result.entries ≡ replicate 4096 (entry_of Name 0 0) }
     {
         let blank = Entry {
             symbol: Symbol::Name,
@@ -30,77 +34,60 @@ impl ItemTable {
             end: Place { offset: 0 },
         };
         ItemTable {
-            entries: [blank; 4096],
+            entries: [blank; MAX_ITEMS],
+            count: 0,
         }
     }
 
-    /// The first `count` items, or all that there is room for.
-    pub fn items(&self, count: usize) -> &[Entry]
-        ensures is { result.now ≡ take count self.now.entries }
+    /// The items that stand in the table.
+    pub fn items(&self) -> &[Entry]
+        ensures is { result.now ≡ items_of self.now }
         ensures few { length result.now ≤ 4096 }
     {
-        front(&self.entries, count)
+        &self.entries[..self.count]
     }
-}
 
-/// The first `count` entries, or all.
-fn front(entries: &[Entry], count: usize) -> &[Entry]
-    ensures { result.now ≡ take count entries.now }
-{
-    let end = entries.len().min(count);
-    &entries[0..end]
+    /// Takes all items out of the table.
+    pub fn clear(&mut self)
+        ensures { items_of self.new ≡ [] }
+    {
+        self.count = 0;
+    }
+
+    /// Puts an item behind the others, or declines it where the table is full.
+    pub fn push(&mut self, entry: Entry) -> Result<(), Decline>
+        ensures put { OnOk result (items_of self.new ≡ items_of self.old ++ (entry ∷ [])) }
+        ensures full { OnErr result ((length (items_of self.old) ≡ 4096) × (items_of self.new ≡ items_of self.old)) }
+        ensures decline { IfErr result (λ d. d ≡ Decline.TooManyItems entry.start) }
+    {
+        if self.count == MAX_ITEMS {
+            return Err(Decline::TooManyItems(entry.start));
+        }
+        self.entries[self.count] = entry;
+        self.count += 1;
+        Ok(())
+    }
 }
 
 /// What stands in the text from one place to another.
 fn part(text: &[u8], start: usize, end: usize) -> &[u8]
     ensures { result.now ≡ take (end - start) (drop start text.now) }
 {
-    let end = text.len().min(end);
-    let start = end.min(start);
-    &text[start..end]
+    let rest = text.get(start..).unwrap_or_default();
+    rest.get(..end.saturating_sub(start)).unwrap_or(rest)
 }
 
 /// The item of an entry: its symbol, and the part of the text that it covers.
-pub fn item_of<'t>(text: &'t [u8], entry: Entry) -> Item<'t>
+pub fn item_of(text: &[u8], entry: Entry) -> Item<'_>
     ensures symbol { symbol_of result ≡ Some entry.symbol }
     ensures bytes { bytes_of result ≡ covered text.now entry }
 {
-    let bytes = part(text, entry.start.offset as usize, entry.end.offset as usize);
+    let bytes = part(text, entry.start.offset.into(), entry.end.offset.into());
     match entry.symbol {
         Symbol::Name => Item::Name(bytes),
         Symbol::Integer => Item::Integer(bytes),
         Symbol::Text => Item::Text(bytes),
         Symbol::Word(keyword) => Item::Word(keyword, bytes),
         Symbol::Mark(separator) => Item::Mark(separator, bytes),
-    }
-}
-
-/// How many items are in the table, and the place of the first that found no room.
-#[derive(Clone, Copy)]
-pub(crate) struct Tally {
-    pub count: usize,
-    pub extra: Option<Place>,
-}
-
-impl Tally {
-    /// Puts an item behind the others, or notes its place where the table is full.
-    pub(crate) fn add(self, entries: &mut [Entry], entry: Entry) -> Tally
-        requires { length entries.old ≡ 4096 }
-        ensures { (es : List Entry) → Holds entries.old self es → Holds entries.new result (es ++ (entry ∷ [])) }
-    {
-        if self.count < MAX_ITEMS {
-            entries[self.count] = entry;
-            Tally {
-                count: self.count + 1,
-                extra: None,
-            }
-        } else if self.extra.is_none() {
-            Tally {
-                count: self.count,
-                extra: Some(entry.start),
-            }
-        } else {
-            self
-        }
     }
 }

@@ -1,4 +1,3 @@
-pub mod Leading
 pub mod Reserved
 pub mod Scans
 pub mod Marks

@@ -1,11 +1,12 @@
 //! Runs of bytes of one class.
-ghost use Rattle.std.specs.Prelude.{◌≡◌, ◌+◌, ◌≤◌, length, drop};
+ghost use Rattle.std.specs.Prelude.{◌≡◌, ◌≤◌, length};
 ghost use Rattle.std.specs.List.{prefix_len};
 ghost use Rattle.scanner.specs.Classes.{holds};
 
 use symbols::Base;
 
 /// The bytes that a run may hold.
+// An enum and no closure: a contract names the class, and needs no law of a test that is passed.
 #[derive(Clone, Copy)]
 pub enum Class {
     Letter,
@@ -36,15 +37,10 @@ impl Class {
     }
 }
 
-/// The place where the bytes of the class that stand from `at` on end.
-pub fn run(text: &[u8], at: usize, class: Class) -> usize
-    requires { at ≤ length text.now }
-    ensures end { result ≡ at + prefix_len (holds class) (drop at text.now) }
+/// How many bytes of the class the text begins with.
+pub fn run(text: &[u8], class: Class) -> usize
+    ensures is { result ≡ prefix_len (holds class) text.now }
     ensures fits { result ≤ length text.now }
 {
-    let mut end = at;
-    while end < text.len() && class.has(text[end]) {
-        end += 1;
-    }
-    end
+    text.iter().take_while(|b| class.has(**b)).count()
 }

@@ -21,16 +21,17 @@ impl<'t> Item<'t> {
         ensures { result.now ≡ bytes_of self.entry }
     {
         match self {
-            Item::Name(bytes) => bytes,
-            Item::Word(_, bytes) => bytes,
-            Item::Integer(bytes) => bytes,
-            Item::Text(bytes) => bytes,
-            Item::Mark(_, bytes) => bytes,
-            Item::Comment(bytes) => bytes,
+            Item::Name(bytes)
+            | Item::Word(_, bytes)
+            | Item::Integer(bytes)
+            | Item::Text(bytes)
+            | Item::Mark(_, bytes)
+            | Item::Comment(bytes) => bytes,
         }
     }
 
     /// What its kind is called.
+    // No `Display` of the item: what it covers is bytes, and a formatter takes text.
     pub fn kind(self) -> &'static str
         ensures { result.now ≡ kind_of self.entry }
     {
@@ -60,7 +61,7 @@ impl<'t> Item<'t> {
 }
 
 /// Why no item stands at the front of a text.
-#[derive(Clone, Copy)]
+#[derive(Clone, Copy, PartialEq, Eq, Debug)]
 pub enum Stop {
     /// The text ends inside an item.
     Short,

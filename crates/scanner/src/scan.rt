@@ -1,42 +1,17 @@
 //! The item at the front of a text.
-ghost use Rattle.std.specs.Prelude.{◌≡◌, ◌<◌, ◌≤◌, [], ◌∷◌, length, take, drop, Some, None};
+ghost use Rattle.std.specs.Prelude.{◌≡◌, ◌<◌, ◌≤◌, length, take, drop, Some};
 ghost use Rattle.scanner.specs.Classes.{holds};
-ghost use Rattle.scanner.specs.Seen.{Compound, Marked, Part, Sees, Shows, SimpleIs, bytes_of, symbol_of};
+ghost use Rattle.scanner.specs.Seen.{Marked, Part, Sees, Shows, bytes_of, symbol_of};
 ghost use Rattle.symbols.specs.See.{keyword_of, named as named_as, see, see_behind, see_enclosed, see_mark, see_quoted, see_word, marks};
-ghost use Rattle.symbols.specs.Bytes.{comment_byte, string_byte};
-ghost use Rattle.symbols.specs.declared.Symbol.TheVariants.{Text};
 
 use crate::bytes::{Class, run};
 use crate::item::{Item, Stop};
 use crate::words::{base, keyword};
 use symbols::{Base, Separator};
 
-/// The separator of one character.
-fn simple(b: u8) -> Option<Separator>
-    ensures { SimpleIs b result }
-{
-    match char::from(b) {
-        '(' => Some(Separator::LeftBracket),
-        ')' => Some(Separator::RightBracket),
-        '*' => Some(Separator::Star),
-        '+' => Some(Separator::Plus),
-        '-' => Some(Separator::Minus),
-        ',' => Some(Separator::Comma),
-        '.' => Some(Separator::Point),
-        '/' => Some(Separator::Slash),
-        ':' => Some(Separator::Colon),
-        ';' => Some(Separator::Semicolon),
-        '<' => Some(Separator::Less),
-        '=' => Some(Separator::Equal),
-        '>' => Some(Separator::Greater),
-        '#' => Some(Separator::Hash),
-        _ => None,
-    }
-}
-
-/// The separator of several characters at the front of the text, the longest that stands there, and the rest of the text.
-fn compound(text: &[u8]) -> Option<(Separator, &[u8])>
-    ensures { Compound text.now result }
+/// The separator at the front of the text, the longest that stands there, and the rest of the text.
+fn mark(text: &[u8]) -> Option<(Separator, &[u8])>
+    ensures { Marked text.now result }
 {
     match text {
         [b':', b'=', b':', rest @ ..] => Some((Separator::Same, rest)),
@@ -46,28 +21,26 @@ fn compound(text: &[u8]) -> Option<(Separator, &[u8])>
         [b'/', b'/', rest @ ..] => Some((Separator::DoubleSlash, rest)),
         [b'<', b'=', rest @ ..] => Some((Separator::AtMost, rest)),
         [b'>', b'=', rest @ ..] => Some((Separator::AtLeast, rest)),
+        [b'(', rest @ ..] => Some((Separator::LeftBracket, rest)),
+        [b')', rest @ ..] => Some((Separator::RightBracket, rest)),
+        [b'*', rest @ ..] => Some((Separator::Star, rest)),
+        [b'+', rest @ ..] => Some((Separator::Plus, rest)),
+        [b'-', rest @ ..] => Some((Separator::Minus, rest)),
+        [b',', rest @ ..] => Some((Separator::Comma, rest)),
+        [b'.', rest @ ..] => Some((Separator::Point, rest)),
+        [b'/', rest @ ..] => Some((Separator::Slash, rest)),
+        [b':', rest @ ..] => Some((Separator::Colon, rest)),
+        [b';', rest @ ..] => Some((Separator::Semicolon, rest)),
+        [b'<', rest @ ..] => Some((Separator::Less, rest)),
+        [b'=', rest @ ..] => Some((Separator::Equal, rest)),
+        [b'>', rest @ ..] => Some((Separator::Greater, rest)),
+        [b'#', rest @ ..] => Some((Separator::Hash, rest)),
         _ => None,
     }
 }
 
-/// The separator at the front of the text, and the rest of the text.
-fn mark(text: &[u8]) -> Option<(Separator, &[u8])>
-    ensures { Marked text.now result }
-{
-    match compound(text) {
-        Some(found) => Some(found),
-        None => match text {
-            [b, rest @ ..] => match simple(*b) {
-                Some(separator) => Some((separator, rest)),
-                None => None,
-            },
-            [] => None,
-        },
-    }
-}
-
 /// A name is a keyword or an identifier.
-fn named<'t>(name: &'t [u8]) -> Item<'t>
+fn named(name: &[u8]) -> Item<'_>
     ensures symbol { symbol_of result ≡ Some (named_as (keyword_of name.now)) }
     ensures bytes { bytes_of result ≡ name.now }
 {
@@ -78,108 +51,78 @@ fn named<'t>(name: &'t [u8]) -> Item<'t>
 }
 
 /// Behind the word of a base, which ends at `end`: an integer, or the word alone is the item.
-fn based<'t>(text: &'t [u8], end: usize, base: Base) -> Item<'t>
+fn based(text: &[u8], end: usize, base: Base) -> Item<'_>
     requires { end ≤ length text.now }
     ensures { Shows text.now (see_behind (take end text.now) end (drop end text.now) (Some base)) result }
 {
-    let digits = run(text, end, Class::Space);
-    let close = run(text, digits, Class::DigitIn(base));
-    if digits > end && close > digits {
-        Item::Integer(&text[0..close])
+    let (word, rest) = text.split_at(end);
+    let spaces = run(rest, Class::Space);
+    let digits = run(&rest[spaces..], Class::DigitIn(base));
+    if spaces > 0 && digits > 0 {
+        Item::Integer(&text[..end + spaces + digits])
     } else {
-        named(&text[0..end])
+        named(word)
     }
 }
 
 /// The text begins with a letter.
-fn word<'t>(text: &'t [u8]) -> Item<'t>
+fn word(text: &[u8]) -> Item<'_>
     ensures { Shows text.now (see_word text.now) result }
 {
-    let end = run(text, 0, Class::NameByte);
-    match base(&text[0..end]) {
+    let end = run(text, Class::NameByte);
+    let name = &text[..end];
+    match base(name) {
         Some(base) => based(text, end, base),
-        None => named(&text[0..end]),
+        None => named(name),
     }
 }
 
 /// The text begins with a quote; bytes of the class stand between it and the next one.
-fn enclosed<'t>(text: &'t [u8], quote: u8, class: Class) -> Result<&'t [u8], Stop>
+fn enclosed(text: &[u8], quote: u8, class: Class) -> Result<&[u8], Stop>
     requires { 0 < length text.now }
     ensures { Part text.now (λ f. see_enclosed f quote (holds class) (drop 1 text.now)) result }
 {
-    let end = run(text, 1, class);
-    if end == text.len() {
-        Err(Stop::Short)
-    } else if text[end] == quote {
-        Ok(&text[0..end + 1])
-    } else {
-        Err(Stop::Stuck(end))
+    let end = 1 + run(&text[1..], class);
+    match &text[end..] {
+        [] => Err(Stop::Short),
+        [b, ..] if *b == quote => Ok(&text[..end + 1]),
+        _ => Err(Stop::Stuck(end)),
     }
 }
 
 /// The text begins with a single quote: one string character stands between it and the next one.
-fn quoted<'t>(text: &'t [u8]) -> Result<Item<'t>, Stop>
+fn quoted(text: &[u8]) -> Result<Item<'_>, Stop>
     requires { 0 < length text.now }
     ensures { Sees text.now (see_quoted (drop 1 text.now)) result }
 {
-    if text.len() == 1 {
-        Err(Stop::Short)
-    } else if !Class::StringByte.has(text[1]) {
-        Err(Stop::Stuck(1))
-    } else if text.len() == 2 {
-        Err(Stop::Short)
-    } else if text[2] != b'\'' {
-        Err(Stop::Stuck(2))
-    } else {
-        Ok(Item::Integer(&text[0..3]))
-    }
-}
-
-/// The text begins with a byte 34.
-fn string<'t>(text: &'t [u8]) -> Result<Item<'t>, Stop>
-    requires { 0 < length text.now }
-    ensures { Sees text.now (see_enclosed (Some Text) 34 string_byte (drop 1 text.now)) result }
-{
-    match enclosed(text, b'"', Class::StringByte) {
-        Ok(part) => Ok(Item::Text(part)),
-        Err(stop) => Err(stop),
-    }
-}
-
-/// The text begins with a byte 37.
-fn comment<'t>(text: &'t [u8]) -> Result<Item<'t>, Stop>
-    requires { 0 < length text.now }
-    ensures { Sees text.now (see_enclosed None 37 comment_byte (drop 1 text.now)) result }
-{
-    match enclosed(text, b'%', Class::CommentByte) {
-        Ok(part) => Ok(Item::Comment(part)),
-        Err(stop) => Err(stop),
+    match text {
+        [_, b, ..] if !Class::StringByte.has(*b) => Err(Stop::Stuck(1)),
+        [_, _, b'\'', ..] => Ok(Item::Integer(&text[..3])),
+        [_, _, _, ..] => Err(Stop::Stuck(2)),
+        _ => Err(Stop::Short),
     }
 }
 
 /// The text begins with a byte that begins no other item than a separator.
-fn separator<'t>(text: &'t [u8]) -> Result<Item<'t>, Stop>
+fn separator(text: &[u8]) -> Result<Item<'_>, Stop>
     ensures { Sees text.now (see_mark marks text.now) result }
 {
-    match mark(text) {
-        Some((separator, rest)) => Ok(Item::Mark(separator, &text[0..text.len() - rest.len()])),
-        None => Err(Stop::Stuck(0)),
-    }
+    let (separator, rest) = mark(text).ok_or(Stop::Stuck(0))?;
+    let length = text.len() - rest.len();
+    Ok(Item::Mark(separator, &text[..length]))
 }
 
 /// The item at the front of the text, or why there is none.
-pub fn next_item<'t>(text: &'t [u8]) -> Result<Item<'t>, Stop>
+pub fn next_item(text: &[u8]) -> Result<Item<'_>, Stop>
     ensures { Sees text.now (see text.now) result }
 {
-    if text.is_empty() {
-        return Err(Stop::Short);
-    }
-    match char::from(text[0]) {
-        'A'..='Z' | 'a'..='z' => Ok(word(text)),
-        '0'..='9' => Ok(Item::Integer(&text[0..run(text, 0, Class::Digit)])),
-        '"' => string(text),
-        '%' => comment(text),
-        '\'' => quoted(text),
-        _ => separator(text),
+    match text {
+        [b'A'..=b'Z' | b'a'..=b'z', ..] => Ok(word(text)),
+        [b'0'..=b'9', ..] => Ok(Item::Integer(&text[..run(text, Class::Digit)])),
+        [b'"', ..] => enclosed(text, b'"', Class::StringByte).map(Item::Text),
+        [b'%', ..] => enclosed(text, b'%', Class::CommentByte).map(Item::Comment),
+        [b'\'', ..] => quoted(text),
+        [_, ..] => separator(text),
+        [] => Err(Stop::Short),
     }
 }

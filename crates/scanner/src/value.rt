@@ -14,13 +14,14 @@ use symbols::Base;
 pub const MAX_INTEGER: u32 = 32_767;
 
 /// What a digit of any base stands for.
+// No `to_digit`: the class of the digits is known here, so its option would never be empty.
 fn digit_value(b: u8) -> u8
     ensures { result ≡ digit_value b }
 {
     if b <= b'9' {
-        b.saturating_sub(48)
+        b.saturating_sub(b'0')
     } else {
-        b - 55
+        b - (b'A' - 10)
     }
 }
 
@@ -43,23 +44,23 @@ fn number(digits: &[u8], base: u32) -> Option<u16>
     requires { (2 ≤ base) × (base ≤ 16) }
     ensures { Small (written base digits.now) result }
 {
-    let mut value: u32 = 0;
-    for i in 0..digits.len() {
-        value = value * base + digit_value(digits[i]) as u32;
+    let mut value = 0;
+    for digit in digits {
+        value = value * base + u32::from(digit_value(*digit));
         if value > MAX_INTEGER {
             return None;
         }
     }
-    Some(value as u16)
+    u16::try_from(value).ok()
 }
 
 /// The number behind the word of a base and spaces, or of digits alone.
 fn number_behind(bytes: &[u8]) -> Option<u16>
     ensures { Small (value_behind (take (prefix_len letter bytes.now) bytes.now) (drop (prefix_len letter bytes.now) bytes.now)) result }
 {
-    let spaces = run(bytes, 0, Class::Letter);
-    let digits = run(bytes, spaces, Class::Space);
-    number(&bytes[digits..], radix(&bytes[0..spaces]))
+    let (word, rest) = bytes.split_at(run(bytes, Class::Letter));
+    let spaces = run(rest, Class::Space);
+    number(&rest[spaces..], radix(word))
 }
 
 /// The value of an integer's bytes, unless it is above 32,767.
@@ -68,7 +69,7 @@ pub fn integer_value(bytes: &[u8]) -> Option<u16>
     ensures rule { (v : ℕ) → IsInteger bytes.now v → Small v result }
 {
     match bytes {
-        [b'\'', c, ..] => Some(*c as u16),
+        [b'\'', c, ..] => Some(u16::from(*c)),
         _ => number_behind(bytes),
     }
 }
@@ -78,7 +79,8 @@ pub fn string_bytes(bytes: &[u8]) -> &[u8]
     ensures twin { result.now ≡ take (length bytes.now - 2) (drop 1 bytes.now) }
     ensures rule { (cs : List ℕ) → IsStringOf bytes.now cs → result.now ≡ cs }
 {
-    let end = bytes.len().saturating_sub(1);
-    let start = end.min(1);
-    &bytes[start..end]
+    match bytes {
+        [_, inner @ .., _] => inner,
+        _ => &[],
+    }
 }

@@ -4,276 +4,97 @@ ghost use Rattle.names.specs.Spelling.{uppers};
 ghost use Rattle.symbols.specs.See.{Spelt};
 ghost use Rattle.symbols.specs.Spellings.{base_word, spelling};
 
-use names::{Named, entry, same_name};
+use names::{Named, entry};
 use symbols::{Base, Keyword};
 
-/// A keyword in capitals.
+/// A reserved word in capitals, and what it stands for.
 #[derive(Clone, Copy)]
-pub struct Reserved {
-    word: &'static [u8],
-    keyword: Keyword,
-}
+struct Reserved(&'static [u8], Keyword);
 
 impl Named for Reserved {
-    ghost spelled = { λ r. r.word.now };
+    ghost spelled = { λ w. w.0.now };
 
     fn name(&self) -> &[u8] {
-        self.word
+        self.0
     }
 }
 
-const RESERVED: [Reserved; 57] = [
-    Reserved {
-        word: b"ABS",
-        keyword: Keyword::Abs,
-    },
-    Reserved {
-        word: b"AND",
-        keyword: Keyword::And,
-    },
-    Reserved {
-        word: b"ARRAY",
-        keyword: Keyword::Array,
-    },
-    Reserved {
-        word: b"BIN",
-        keyword: Keyword::Bin,
-    },
-    Reserved {
-        word: b"BLOCK",
-        keyword: Keyword::Block,
-    },
-    Reserved {
-        word: b"BY",
-        keyword: Keyword::By,
-    },
-    Reserved {
-        word: b"BYTE",
-        keyword: Keyword::Byte,
-    },
-    Reserved {
-        word: b"CODE",
-        keyword: Keyword::Code,
-    },
-    Reserved {
-        word: b"DATA",
-        keyword: Keyword::Data,
-    },
-    Reserved {
-        word: b"DO",
-        keyword: Keyword::Do,
-    },
-    Reserved {
-        word: b"ELSE",
-        keyword: Keyword::Else,
-    },
-    Reserved {
-        word: b"ELSEIF",
-        keyword: Keyword::ElseIf,
-    },
-    Reserved {
-        word: b"END",
-        keyword: Keyword::End,
-    },
-    Reserved {
-        word: b"ENDBLOCK",
-        keyword: Keyword::EndBlock,
-    },
-    Reserved {
-        word: b"ENDDATA",
-        keyword: Keyword::EndData,
-    },
-    Reserved {
-        word: b"ENDPROC",
-        keyword: Keyword::EndProc,
-    },
-    Reserved {
-        word: b"ENT",
-        keyword: Keyword::Ent,
-    },
-    Reserved {
-        word: b"EXT",
-        keyword: Keyword::Ext,
-    },
-    Reserved {
-        word: b"FOR",
-        keyword: Keyword::For,
-    },
-    Reserved {
-        word: b"FRAC",
-        keyword: Keyword::Frac,
-    },
-    Reserved {
-        word: b"GOTO",
-        keyword: Keyword::Goto,
-    },
-    Reserved {
-        word: b"HEX",
-        keyword: Keyword::Hex,
-    },
-    Reserved {
-        word: b"IF",
-        keyword: Keyword::If,
-    },
-    Reserved {
-        word: b"INT",
-        keyword: Keyword::Int,
-    },
-    Reserved {
-        word: b"LABEL",
-        keyword: Keyword::Label,
-    },
-    Reserved {
-        word: b"LAND",
-        keyword: Keyword::Land,
-    },
-    Reserved {
-        word: b"LENGTH",
-        keyword: Keyword::Length,
-    },
-    Reserved {
-        word: b"LET",
-        keyword: Keyword::Let,
-    },
-    Reserved {
-        word: b"LOR",
-        keyword: Keyword::Lor,
-    },
-    Reserved {
-        word: b"MOD",
-        keyword: Keyword::Mod,
-    },
-    Reserved {
-        word: b"MODE",
-        keyword: Keyword::Mode,
-    },
-    Reserved {
-        word: b"NEV",
-        keyword: Keyword::Nev,
-    },
-    Reserved {
-        word: b"NOT",
-        keyword: Keyword::Not,
-    },
-    Reserved {
-        word: b"OCT",
-        keyword: Keyword::Oct,
-    },
-    Reserved {
-        word: b"OF",
-        keyword: Keyword::Of,
-    },
-    Reserved {
-        word: b"OPTION",
-        keyword: Keyword::Option,
-    },
-    Reserved {
-        word: b"OR",
-        keyword: Keyword::Or,
-    },
-    Reserved {
-        word: b"PROC",
-        keyword: Keyword::Proc,
-    },
-    Reserved {
-        word: b"REAL",
-        keyword: Keyword::Real,
-    },
-    Reserved {
-        word: b"REF",
-        keyword: Keyword::Ref,
-    },
-    Reserved {
-        word: b"REP",
-        keyword: Keyword::Rep,
-    },
-    Reserved {
-        word: b"RETURN",
-        keyword: Keyword::Return,
-    },
-    Reserved {
-        word: b"RTL",
-        keyword: Keyword::Rtl,
-    },
-    Reserved {
-        word: b"SHA",
-        keyword: Keyword::Sha,
-    },
-    Reserved {
-        word: b"SHL",
-        keyword: Keyword::Shl,
-    },
-    Reserved {
-        word: b"SLA",
-        keyword: Keyword::Sla,
-    },
-    Reserved {
-        word: b"SLL",
-        keyword: Keyword::Sll,
-    },
-    Reserved {
-        word: b"SRA",
-        keyword: Keyword::Sra,
-    },
-    Reserved {
-        word: b"SRL",
-        keyword: Keyword::Srl,
-    },
-    Reserved {
-        word: b"STACK",
-        keyword: Keyword::Stack,
-    },
-    Reserved {
-        word: b"SVC",
-        keyword: Keyword::Svc,
-    },
-    Reserved {
-        word: b"SWITCH",
-        keyword: Keyword::Switch,
-    },
-    Reserved {
-        word: b"THEN",
-        keyword: Keyword::Then,
-    },
-    Reserved {
-        word: b"TITLE",
-        keyword: Keyword::Title,
-    },
-    Reserved {
-        word: b"TO",
-        keyword: Keyword::To,
-    },
-    Reserved {
-        word: b"VAL",
-        keyword: Keyword::Val,
-    },
-    Reserved {
-        word: b"WHILE",
-        keyword: Keyword::While,
-    },
+const KEYWORDS: [Reserved; 57] = [
+    Reserved(b"ABS", Keyword::Abs),
+    Reserved(b"AND", Keyword::And),
+    Reserved(b"ARRAY", Keyword::Array),
+    Reserved(b"BIN", Keyword::Bin),
+    Reserved(b"BLOCK", Keyword::Block),
+    Reserved(b"BY", Keyword::By),
+    Reserved(b"BYTE", Keyword::Byte),
+    Reserved(b"CODE", Keyword::Code),
+    Reserved(b"DATA", Keyword::Data),
+    Reserved(b"DO", Keyword::Do),
+    Reserved(b"ELSE", Keyword::Else),
+    Reserved(b"ELSEIF", Keyword::ElseIf),
+    Reserved(b"END", Keyword::End),
+    Reserved(b"ENDBLOCK", Keyword::EndBlock),
+    Reserved(b"ENDDATA", Keyword::EndData),
+    Reserved(b"ENDPROC", Keyword::EndProc),
+    Reserved(b"ENT", Keyword::Ent),
+    Reserved(b"EXT", Keyword::Ext),
+    Reserved(b"FOR", Keyword::For),
+    Reserved(b"FRAC", Keyword::Frac),
+    Reserved(b"GOTO", Keyword::Goto),
+    Reserved(b"HEX", Keyword::Hex),
+    Reserved(b"IF", Keyword::If),
+    Reserved(b"INT", Keyword::Int),
+    Reserved(b"LABEL", Keyword::Label),
+    Reserved(b"LAND", Keyword::Land),
+    Reserved(b"LENGTH", Keyword::Length),
+    Reserved(b"LET", Keyword::Let),
+    Reserved(b"LOR", Keyword::Lor),
+    Reserved(b"MOD", Keyword::Mod),
+    Reserved(b"MODE", Keyword::Mode),
+    Reserved(b"NEV", Keyword::Nev),
+    Reserved(b"NOT", Keyword::Not),
+    Reserved(b"OCT", Keyword::Oct),
+    Reserved(b"OF", Keyword::Of),
+    Reserved(b"OPTION", Keyword::Option),
+    Reserved(b"OR", Keyword::Or),
+    Reserved(b"PROC", Keyword::Proc),
+    Reserved(b"REAL", Keyword::Real),
+    Reserved(b"REF", Keyword::Ref),
+    Reserved(b"REP", Keyword::Rep),
+    Reserved(b"RETURN", Keyword::Return),
+    Reserved(b"RTL", Keyword::Rtl),
+    Reserved(b"SHA", Keyword::Sha),
+    Reserved(b"SHL", Keyword::Shl),
+    Reserved(b"SLA", Keyword::Sla),
+    Reserved(b"SLL", Keyword::Sll),
+    Reserved(b"SRA", Keyword::Sra),
+    Reserved(b"SRL", Keyword::Srl),
+    Reserved(b"STACK", Keyword::Stack),
+    Reserved(b"SVC", Keyword::Svc),
+    Reserved(b"SWITCH", Keyword::Switch),
+    Reserved(b"THEN", Keyword::Then),
+    Reserved(b"TITLE", Keyword::Title),
+    Reserved(b"TO", Keyword::To),
+    Reserved(b"VAL", Keyword::Val),
+    Reserved(b"WHILE", Keyword::While),
 ];
 
 /// The keyword that a name is, if it is one.
 pub fn keyword(name: &[u8]) -> Option<Keyword>
     ensures { Spelt spelling (uppers name.now) result }
 {
-    match entry(&RESERVED, name) {
-        Some(reserved) => Some(reserved.keyword),
-        None => None,
-    }
+    let Reserved(_, keyword) = entry(&KEYWORDS, name)?;
+    Some(*keyword)
 }
 
 /// The base that a name is the word of, if it is one.
 pub fn base(name: &[u8]) -> Option<Base>
     ensures { Spelt base_word (uppers name.now) result }
 {
-    if same_name(name, b"BIN") {
-        Some(Base::Binary)
-    } else if same_name(name, b"OCT") {
-        Some(Base::Octal)
-    } else if same_name(name, b"HEX") {
-        Some(Base::Hexadecimal)
-    } else {
-        None
+    match name {
+        [b'B' | b'b', b'I' | b'i', b'N' | b'n'] => Some(Base::Binary),
+        [b'O' | b'o', b'C' | b'c', b'T' | b't'] => Some(Base::Octal),
+        [b'H' | b'h', b'E' | b'e', b'X' | b'x'] => Some(Base::Hexadecimal),
+        _ => None,
     }
 }

@@ -1,5 +1,5 @@
 -- What a text is answered by up to its syntax: a module's tree, or the one decline. Assumes nothing.
-use Rattle.std.specs.Prelude.{◌≡◌, ℕ, List, map, length, take, Ok, Err, Result, slice_index_or}
+use Rattle.std.specs.Prelude.{◌≡◌, ℕ, List, map, length, Ok, Err, Result, slice_index_or}
 use Rattle.answers.specs.Declines.{place}
 use Rattle.answers.specs.declared.Place.{Place}
 use Rattle.answers.specs.declared.Decline.{Decline}
@@ -33,11 +33,7 @@ pub data Parses (es : List Entry) (end : Place) (ns : List Node) : Result ℕ De
   unexpected : (e : ℕ) → Bad max_depth (signs es) e → Parses es end ns (Err (Unexpected (place_of es end e)))
   too_deep : (e : ℕ) → Deep max_depth (signs es) e → Parses es end ns (Err (TooDeep (place_of es end e)))
 
--- What a text is answered by: the decline of its cut, or what its items are answered by. The items stand in the table xs.
+-- What a text is answered by: the decline of its cut, or what its items are answered by. Its items are those in the table, xs.
 pub data Reads (text : List ℕ) (xs : List Entry) (ns : List Node) : Result ℕ Decline → Type 0 where
   uncut : (d : Decline) → Verdict text (Err d) → Reads text xs ns (Err d)
-  cut :
-      (n : ℕ) (r : Result ℕ Decline)
-      → Verdict text (Ok (take n xs))
-      → Parses (take n xs) (place (length text)) ns r
-      → Reads text xs ns r
+  cut : (r : Result ℕ Decline) → Verdict text (Ok xs) → Parses xs (place (length text)) ns r → Reads text xs ns r

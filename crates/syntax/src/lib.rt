@@ -1,7 +1,8 @@
 //! The syntax of a text: from its items to the tree of the module, or the decline.
 #![tactic(auto)]
 
-ghost use Rattle.std.specs.Prelude.{◌≡◌, ◌+◌, length, take, replicate};
+ghost use Rattle.std.specs.Prelude.{◌≡◌, ◌+◌, length, replicate};
+ghost use Rattle.lexer.specs.Tables.{items_of};
 ghost use Rattle.nodes.specs.Nodes.{blank_node};
 ghost use Rattle.nodes.specs.declared.Fault.{Fault};
 ghost use Rattle.syntax.specs.Parsing.{place_of, Parses, Reads};
@@ -53,17 +54,11 @@ fn decline(fault: Fault, items: &[Entry], end: Place) -> Decline
     }
 }
 
-/// The tree of the module whose items are the first `count` of the table, in a text that ends at `end`: the node that stands for it, or
-/// the decline.
-pub fn parse(
-    items: &ItemTable,
-    count: usize,
-    end: Place,
-    tree: &mut NodeTable,
-) -> Result<usize, Decline>
-    ensures { Parses (take count items.now.entries) end tree.new.nodes result }
+/// The tree of the module whose items stand in the table, in a text that ends at `end`: the node that stands for it, or the decline.
+pub fn parse(items: &ItemTable, end: Place, tree: &mut NodeTable) -> Result<usize, Decline>
+    ensures { Parses (items_of items.now) end tree.new.nodes result }
 {
-    let items = items.items(count);
+    let items = items.items();
     let mut terminals = [Symbol::Stop; MAX_ITEMS];
     let length = classify(items, &mut terminals);
     match read_module(&terminals[0..length], &mut tree.nodes) {
@@ -74,11 +69,11 @@ pub fn parse(
 
 /// Cuts the text into its items and reads the tree of the module that they are: the node that stands for it, or the decline.
 pub fn read(text: &[u8], items: &mut ItemTable, tree: &mut NodeTable) -> Result<usize, Decline>
-    ensures { Reads text.now items.new.entries tree.new.nodes result }
+    ensures { Reads text.now (items_of items.new) tree.new.nodes result }
 {
-    let count = cut(text, items)?;
+    cut(text, items)?;
     let end = Place {
         offset: text.len() as u16,
     };
-    parse(items, count, end, tree)
+    parse(items, end, tree)
 }

@@ -1,4 +1,5 @@
-use Rattle.std.proofs.Common.{take, Err, sym, ap, ◌∙◌, subst, arith}
+use Rattle.std.proofs.Common.{Err, sym, ap, ◌∙◌, subst, arith}
+use Rattle.lexer.specs.Tables.{items_of}
 use Rattle.terminals.specs.Signs.{signs}
 use Rattle.syntax.specs.Parsing.{Parses}
 use Rattle.syntax.specs.Declining.{declined}
@@ -16,5 +17,5 @@ returns-in-Err c =
     let e = c.items-items.ensures.is in
     let n = c.classify-length.ensures in
     let d = c.decline.ensures ∙ ap (λ es. declined es c.args.end c.in-Err.fault) e in
-    subst (λ x. Parses (take c.args.count c.args.items.now.entries) c.args.end c.read_module.new.nodes (Err x)) (sym d)
+    subst (λ x. Parses (items_of c.args.items.now) c.args.end c.read_module.new.nodes (Err x)) (sym d)
     (fault_answer _ _ _ _ (same_signs c.items-items.result.now _ c.classify-length.result (omega (arith, n.count, c.items-items.ensures.few)) n.front ∙ ap signs e) c.in-Err.fault c.in-Err.ensures)

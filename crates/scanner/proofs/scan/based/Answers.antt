@@ -1,25 +1,27 @@
-use Rattle.std.proofs.Common.{arith}
-use Rattle.scanner.proofs.Scans.{Measured, part, shown, named_shown, based_long, based_no_space, based_no_digit}
+use Rattle.std.proofs.Common.{inl, inr, refl, ◌+◌, arith}
+use Rattle.scanner.proofs.Scans.{measured, shown, named_shown, based_long, based_short}
 use Rattle.scanner.proofs.scan.based.Goals as goal
-use Rattle.scanner.proofs.scan.based.Goals.{else-digits-end-via-then-digits-end+else-close-digits, else-digits-end-via-else-digits-end}
+use Rattle.scanner.proofs.scan.based.Goals.{else-spaces-gt0-via-then-spaces-gt0+else-digits-gt0, else-spaces-gt0-via-else-spaces-gt0}
 
-pub returns-then-close-digits : goal.returns-then-close-digits
-returns-then-close-digits c =
+pub returns-then-digits-gt0 : goal.returns-then-digits-gt0
+returns-then-digits-gt0 c =
     let t = c.args.text.now in
-    let m : Measured t c.args.end c.args.base c.run-digits.result c.run-close.result =
-    record { spaces = c.run-digits.ensures.end; figures = c.run-close.ensures.end } in
-    shown t _ _ c.run-close.result (part t c.run-close.result) (omega arith)
-    (based_long t c.args.end c.args.base c.run-digits.result c.run-close.result m (omega arith) (omega arith))
+    let n = c.args.end in
+    let s = c.run-spaces.result in
+    let d = c.run-digits.result in
+    let m = measured t c.split_at.result.1.now n c.args.base s d c.split_at.ensures.back c.run-spaces.ensures.is c.run-digits.ensures.is in
+    shown t _ _ (n + s + d) refl (omega (arith, c.run-digits.ensures.fits)) (based_long t n c.args.base s d m c.if-spaces-gt0.true c.if-digits-gt0.true)
 
-pub returns-else-digits-end : goal.returns-else-digits-end
-returns-else-digits-end c =
+pub returns-else-spaces-gt0 : goal.returns-else-spaces-gt0
+returns-else-spaces-gt0 c =
     let t = c.args.text.now in
-    let m : Measured t c.args.end c.args.base c.run-digits.result c.run-close.result =
-    record { spaces = c.run-digits.ensures.end; figures = c.run-close.ensures.end } in
-    named_shown t _ c.named.result c.args.end c.requires c.named.ensures.symbol c.named.ensures.bytes
-    (elim c.else-digits-end.branch [
-      | else-digits-end-via-then-digits-end+else-close-digits w ↦
-          based_no_digit t c.args.end c.args.base c.run-digits.result c.run-close.result m w.if-close-digits.false
-      | else-digits-end-via-else-digits-end w ↦
-          based_no_space t c.args.end c.args.base c.run-digits.result c.run-close.result m w.if-digits-end.false
-    ])
+    let n = c.args.end in
+    let s = c.run-spaces.result in
+    let d = c.run-digits.result in
+    let m = measured t c.split_at.result.1.now n c.args.base s d c.split_at.ensures.back c.run-spaces.ensures.is c.run-digits.ensures.is in
+    named_shown t c.split_at.result.0.now _ c.named.result n c.requires c.split_at.ensures.front c.named.ensures.symbol c.named.ensures.bytes
+    (based_short t n c.args.base s d m
+    (elim c.else-spaces-gt0.branch [
+      | else-spaces-gt0-via-then-spaces-gt0+else-digits-gt0 w ↦ inr w.if-digits-gt0.false
+      | else-spaces-gt0-via-else-spaces-gt0 w ↦ inl w.if-spaces-gt0.false
+    ]))
