@@ -1,5 +1,6 @@
 -- From what the parser's functions answer to what a text is answered by. Assumes nothing.
-use Rattle.std.proofs.Common.{◌≡◌, ℕ, zero, suc, ◌-◌, ◌<◌, ◌≤◌, List, [], ◌∷◌, length, get_or, take, drop, Ok, Err, sym, refl, ap, ◌∙◌, subst, arith}
+use Rattle.std.specs.Result.{IsErrAnd}
+use Rattle.std.proofs.Common.{◌≡◌, ℕ, suc, ◌-◌, ◌≤◌, List, [], ◌∷◌, length, take, drop, Ok, Err, sym, refl, ap, ◌∙◌, subst, arith, Result, MatchResult}
 use Rattle.std.proofs.lemmas.List.{take_all}
 use Rattle.answers.specs.declared.Place.{Place}
 use Rattle.symbols.specs.Cut.{Verdict, whole}
@@ -15,20 +16,8 @@ use Rattle.nodes.specs.declared.Node.{Node}
 use Rattle.nodes.specs.declared.Fault.{Fault}
 use Rattle.nodes.specs.declared.Fault.TheVariants.{Syntax, Deep}
 use Rattle.terminals.specs.Signs.{signs}
-use Rattle.syntax.specs.Parsing.{place_of, Parses, module_read, unexpected, too_deep}
+use Rattle.syntax.specs.Parsing.{Parses, module_read, unexpected, too_deep}
 use Rattle.syntax.specs.Declining.{declined as declined_by}
-
--- the place of an item
-pub placed : (es : List Entry) (i : ℕ) (x : Entry) (end : Place) → i < length es → (get_or es i x).start ≡ place_of es end i
-placed [] i x end h = absurd (omega arith)
-placed (e ∷ es) zero x end h = refl
-placed (e ∷ es) (suc i) x end h = placed es i x end (omega arith)
-
-pub unplaced : (es : List Entry) (i : ℕ) (end : Place) → length es ≤ i → end ≡ place_of es end i
-unplaced [] zero end h = refl
-unplaced [] (suc i) end h = refl
-unplaced (e ∷ es) zero end h = absurd (omega arith)
-unplaced (e ∷ es) (suc i) end h = unplaced es i end (omega arith)
 
 length_signs : (es : List Entry) → length (signs es) ≡ length es
 length_signs [] = refl
@@ -57,3 +46,9 @@ module _ (es : List Entry) (end : Place) (ns : List Node) (s : List Symbol) (e :
 -- a text that is cut is short
 pub short_text : (t : List ℕ) (es : List Entry) → Verdict t (Ok es) → length t ≤ 32768
 short_text t es (whole xs l c n) = l
+
+-- what is said of a result, and of what `map_err` makes of it
+pub answered : {T E D : Type 0} (r : Result T E) (q : Result T D) {P : T → Type 0} {Q : E → Type 0} {S : E → D → Type 0} (G : Result T D → Type 0) → ((x : T) → P x → G (Ok x)) → ((e : E) (d : D) → Q e → S e d → G (Err d)) → MatchResult r P Q → MatchResult r (λ x. q ≡ Ok x) (λ e. IsErrAnd q (S e)) → G q
+answered (Ok x) q G a b p e = subst G (sym e) (a x p)
+answered (Err f) (Err d) G a b p e = b f d p e
+answered (Err f) (Ok x) G a b p e = absurd e

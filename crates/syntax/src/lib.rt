@@ -41,7 +41,7 @@ impl NodeTable {
 fn item_place(items: &[Entry], end: Place, i: usize) -> Place
     ensures { result ≡ place_of items.now end i }
 {
-    if i < items.len() { items[i].start } else { end }
+    items.get(i).map_or(end, |entry| entry.start)
 }
 
 /// The decline that tells of a fault.
@@ -61,10 +61,7 @@ pub fn parse(items: &ItemTable, end: Place, tree: &mut NodeTable) -> Result<usiz
     let items = items.items();
     let mut terminals = [Symbol::Stop; MAX_ITEMS];
     let length = classify(items, &mut terminals);
-    match read_module(&terminals[0..length], &mut tree.nodes) {
-        Ok(root) => Ok(root),
-        Err(fault) => Err(decline(fault, items, end)),
-    }
+    read_module(&terminals[..length], &mut tree.nodes).map_err(|fault| decline(fault, items, end))
 }
 
 /// Cuts the text into its items and reads the tree of the module that they are: the node that stands for it, or the decline.

@@ -97,8 +97,9 @@ pub fn classify(items: &[Entry], out: &mut [Terminal]) -> usize
     ensures behind { drop result out.new ≡ drop result out.old }
 {
     let count = items.len().min(out.len());
-    for i in 0..count {
-        out[i] = terminal(items[i].symbol);
+    // The index is of `out`: behind `iter_mut().zip(..)` a proof knows nothing of what was written (tried).
+    for (i, entry) in items[..count].iter().enumerate() {
+        out[i] = terminal(entry.symbol);
     }
     count
 }

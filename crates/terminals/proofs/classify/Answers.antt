@@ -1,5 +1,5 @@
 use Rattle.std.proofs.Common.{◌≡◌, ℕ, ◌+◌, ◌<◌, List, [], ◌∷◌, ◌++◌, length, get_or, take, drop, set, sym, ap, ◌∙◌, arith}
-use Rattle.std.proofs.lemmas.List.{take_more_set, take-map, map_more, drop-set-lt, drop-drop}
+use Rattle.std.proofs.lemmas.List.{length-take, get_or-take, take_more_set, take-map, map_more, drop-set-lt, drop-drop}
 use Rattle.symbols.specs.declared.Entry.{Entry}
 use Rattle.grammar.specs.declared.Symbol.{Symbol as Terminal}
 use Rattle.terminals.specs.Signs.{sign, signs}
@@ -28,4 +28,6 @@ behind_more out before i x h =
 
 pub loop-i-preserved : goal.loop-i-preserved
 loop-i-preserved c =
-    (front_more c.args.items.now c.loop-i.out c.loop-i.i _ c.terminal.result (omega arith) (omega arith) c.terminal.ensures c.loop-i.invariant.0, behind_more c.loop-i.out c.args.out.now c.loop-i.i c.terminal.result c.loop-i.invariant.1)
+    let n = length-take c.min-count.result c.args.items.now in
+    let h : c.loop-i.i < c.min-count.result = omega (arith, n) in
+    (front_more c.args.items.now c.loop-i.out c.loop-i.i _ c.terminal.result (omega (arith, h)) (omega (arith, h)) (c.terminal.ensures ∙ ap (λ (e : Entry). sign e.symbol) (get_or-take c.min-count.result c.args.items.now c.loop-i.i _ h)) c.loop-i.invariant.0, behind_more c.loop-i.out c.args.out.now c.loop-i.i c.terminal.result c.loop-i.invariant.1)
