@@ -1,5 +1,9 @@
 -- Terms and the levels of an expression, step by step. Assumes nothing.
-use Rattle.std.proofs.Common.{◌≡◌, ℕ, suc, ◌+◌, ◌-◌, ◌<◌, ◌≤◌, Bool, true, false, cond, List, [], ◌∷◌, length, get_or, drop, set, sym, refl, ap, ◌∙◌, subst, arith, below_more}
+use Rattle.std.proofs.lemmas.Bool.{cases_lt}
+use Rattle.std.specs.List.{prefix_len}
+use Rattle.std.proofs.lemmas.List.{get_or-drop, length-drop, get_or_past, take_all}
+use Rattle.std.proofs.lemmas.List.Sums.{prefix_len-le-length, prefix_len_passes, prefix_len_stops}
+use Rattle.std.proofs.Common.{zero, ◌≡◌, ℕ, suc, ◌+◌, ◌-◌, ◌<◌, ◌≤◌, Bool, true, false, cond, List, [], ◌∷◌, length, get_or, take, drop, set, sym, refl, ap, ◌∙◌, subst, arith, below_more, ◌⊎◌, inl, inr}
 use Rattle.grammar.specs.Symbols.{among, same, same_true, STOP, PLUS, MINUS, STAR, DIVIDE, MOD, LAND, LOR, NEV, ABS, NOT, BYTE, LENGTH}
 use Rattle.grammar.specs.declared.Symbol.{Symbol}
 use Rattle.grammar.specs.Trees.{Token, token, mark, some, Dyadic, times, divide, modulo, land, lor, nev, plus, minus, spell, Monadic, positive, negative, absolute, complement, narrow, size, spell_monadic, Expr, term, up, dyadic, Term, monadic, primary, Primary, of_expr, of_term, of_primary}
@@ -77,6 +81,35 @@ monads_more d s i k h q m = record {
   each = λ j a b. below_more (λ (n : ℕ). i ≤ n → among monadics (get_or s n STOP) ≡ true) k (λ n b a. m.each n a b) (λ a. q) j b a;
   met = λ α. m.met α ∙ monadic_way d s k h q α;
 }
+
+-- as many operators as stand there, and no further one
+monads_upto : (d : ℕ) (s : List Symbol) (i n : ℕ) → i ≤ length s → n ≤ prefix_len (among monadics) (drop i s) → Monads d s i (i + n)
+monads_upto d s i zero h l = let e : i ≡ i + 0 = omega arith in subst (λ (k : ℕ). Monads d s i k) e (monads_start d s i h)
+monads_upto d s i (suc n) h l =
+    let e : i + n + 1 ≡ i + suc n = omega arith in
+    let f = prefix_len-le-length (among monadics) (drop i s) in
+    let g = length-drop i s in
+    let q = prefix_len_passes (among monadics) (drop i s) n STOP (omega arith) in
+    subst (λ (k : ℕ). Monads d s i k) e (monads_more d s i (i + n) (omega (arith, f, g)) (ap (among monadics) (sym (get_or-drop i s n STOP)) ∙ q) (monads_upto d s i n h (omega arith)))
+
+all_left : (s : List Symbol) (i n : ℕ) → n ≡ prefix_len (among monadics) (take (length s - i) (drop i s)) → n ≡ prefix_len (among monadics) (drop i s)
+all_left s i n e = let g = length-drop i s in e ∙ ap (prefix_len (among monadics)) (take_all (length s - i) (drop i s) (omega (arith, g)))
+
+pub monads_there : (d : ℕ) (s : List Symbol) (i n : ℕ) → i ≤ length s → n ≡ prefix_len (among monadics) (take (length s - i) (drop i s)) → Monads d s i (i + n)
+monads_there d s i n h e = let f = all_left s i n e in monads_upto d s i n h (omega (arith, f))
+
+pub monads_end : (s : List Symbol) (i n : ℕ) → i ≤ length s → n ≡ prefix_len (among monadics) (take (length s - i) (drop i s)) → among monadics (get_or s (i + n) STOP) ≡ false
+monads_end s i n h z = by (cases_lt n (length (drop i s)))
+  where
+    e : n ≡ prefix_len (among monadics) (drop i s)
+    e = all_left s i n z
+
+    g : length (drop i s) ≡ length s - i
+    g = length-drop i s
+
+    by : n < length (drop i s) ⊎ length (drop i s) ≤ n → among monadics (get_or s (i + n) STOP) ≡ false
+    by (inl l) = ap (among monadics) (sym (get_or-drop i s n STOP)) ∙ ap (λ (k : ℕ). among monadics (get_or (drop i s) k STOP)) e ∙ prefix_len_stops (among monadics) (drop i s) STOP (omega (arith, e, l))
+    by (inr l) = ap (among monadics) (get_or_past s (i + n) STOP (omega (arith, g, l)))
 
 pub no_operator : (c : Symbol) → among monadics c ≡ true → c ≡ STOP → ⊥
 no_operator c h e = clash h (ap (among monadics) e)

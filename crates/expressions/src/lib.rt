@@ -1,6 +1,7 @@
 //! Reading expressions and conditions into nodes, by recursive descent.
 #![tactic(auto)]
 
+ghost use Rattle.std.specs.List.{prefix_len};
 ghost use Rattle.std.specs.Prelude.{◌≡◌, ◌+◌, ◌-◌, ◌*◌, ◌<◌, ◌≤◌, [], ◌∷◌, length, MatchResult, slice_index_or};
 ghost use Rattle.nodes.specs.Made.{Made, Way, Refused, LevelWay, LevelRefused, FormWay, FormRefused, Opening, PartsWay, VariableWay, VariableRefused, Counted, ArgsWay, rank as rank_of, monadics, comparators, Room, ReadsTo};
 ghost use Rattle.nodes.specs.Nodes.{IsExpr, IsExprs, IsPrimary, IsTerm, IsVariable, IsComparison, IsSubcondition, IsCondition};
@@ -36,6 +37,14 @@ fn monadic(c: Symbol) -> bool
             true,
         _ => false,
     }
+}
+
+/// How many monadic operators the terminals begin with.
+fn monads(symbols: &[Symbol]) -> usize
+    ensures is { result ≡ prefix_len (among monadics) symbols.now }
+    ensures fits { result ≤ length symbols.now }
+{
+    symbols.iter().take_while(|c| monadic(**c)).count()
 }
 
 // '(' expr ')', the bracket being at i
@@ -110,6 +119,8 @@ pub fn variable(from: Spot<'_>, nodes: &mut [Node], start: Parsed) -> Result<Par
     }
 }
 
+// Not `read_list`, here and in `level`: the first expression is read before it is known that a list begins; and a cycle of functions through
+// a trait leaves its whole proof to be written by hand (tried at the values of a list).
 // The further expressions of a call whose name is at i, its first expression having been read up to `at`, where a comma is.
 #[cycle(expressions)]
 fn calls(from: Spot<'_>, nodes: &mut [Node], at: Parsed) -> Result<Parsed, Fault>
@@ -258,16 +269,15 @@ fn term(from: Spot<'_>, nodes: &mut [Node]) -> Result<Parsed, Fault>
     requires room { Room 0 from nodes.old }
     ensures { ReadsTo 0 Term IsTerm of_term (a_term ∷ []) from.entry nodes.old nodes.new result }
 {
-    let mut k = from.next;
-    while monadic(from.peek(k)) {
-        k += 1;
-    }
-    let mut at = primary(Spot { next: k, ..from }, nodes)?;
-    while k > from.next {
-        k -= 1;
+    let end = from.next + monads(&from.symbols[from.next..]);
+    let mut at = primary(Spot { next: end, ..from }, nodes)?;
+    for k in (from.next..end).rev() {
         nodes[at.used] = Node::Monadic(from.peek(k), k, at.root);
-        at.root = at.used;
-        at.used += 1;
+        at = Parsed {
+            next: at.next,
+            used: at.used + 1,
+            root: at.used,
+        };
     }
     Ok(at)
 }

@@ -23,6 +23,9 @@ use statements::bodies::body;
 /// How deep a module may nest.
 pub const MAX_DEPTH: usize = 32;
 
+// The three that may be left out differ in what they call, in its tree and in its goal: a trait over them would have to name all three for
+// each, and be longer than they are.
+
 /// Parameters, or none.
 fn maybe_fields(from: Spot<'_>, nodes: &mut [Node]) -> Result<Parsed, Fault>
     requires within { from.next ≤ length from.symbols.now }

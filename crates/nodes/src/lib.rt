@@ -10,6 +10,7 @@ use grammar::Symbol;
 
 /// A node of a tree. The table of nodes stands for a tree: each node names the nodes below it by their index, which is lower, and the items
 /// that it keeps by their number. Lists are linked backwards: `Also` is a list and one more.
+// A table and no boxes: the library has no heap, and the table is lent with a fixed size.
 #[derive(Clone, Copy)]
 pub enum Node {
     // expressions: an item; a list or a variable first, then its bracket or name, then what is inside
@@ -102,6 +103,8 @@ pub enum Fault {
 
 /// Where reading stands: the terminals of the module, the number of the next one, how many brackets may still open, and how many nodes are
 /// used.
+// The number of used nodes goes with the spot, and not with the table: a form may be read again from an earlier spot, and then its nodes
+// are overwritten with nothing to take back.
 #[derive(Clone, Copy)]
 pub struct Spot<'s> {
     pub symbols: &'s [Symbol],

@@ -38,6 +38,8 @@ pub fn body(from: Spot<'_>, nodes: &mut [Node]) -> Result<Parsed, Fault>
 }
 
 /// One statement, and further ones behind semicolons.
+// Not `read_list`, here and in `arms`: tried at the values of a list (crate `declarations`), and a cycle of functions through a trait leaves
+// its whole proof to be written by hand.
 #[cycle(statements)]
 fn sequence(from: Spot<'_>, nodes: &mut [Node]) -> Result<Parsed, Fault>
     requires within { from.next ≤ length from.symbols.now }

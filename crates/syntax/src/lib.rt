@@ -21,6 +21,7 @@ use terminals::classify;
 pub const MAX_NODES: usize = 8193;
 
 /// The nodes of a module's tree, each behind those that it names.
+// Of a fixed size, and no `ArrayVec`: the library has no heap, and reading says in the spot how many are used.
 #[derive(Clone, Copy)]
 pub struct NodeTable {
     pub nodes: [Node; 8193],
@@ -59,6 +60,7 @@ pub fn parse(items: &ItemTable, end: Place, tree: &mut NodeTable) -> Result<usiz
     ensures { Parses (items_of items.now) end tree.new.nodes result }
 {
     let items = items.items();
+    // Of a fixed size: the library has no heap. As many as there are items are used.
     let mut terminals = [Symbol::Stop; MAX_ITEMS];
     let length = classify(items, &mut terminals);
     read_module(&terminals[..length], &mut tree.nodes).map_err(|fault| decline(fault, items, end))

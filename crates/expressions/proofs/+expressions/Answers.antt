@@ -9,7 +9,7 @@ use Rattle.nodes.proofs.Keep.{agree_set, at_set, agree_trans}
 use Rattle.nodes.proofs.Results.{otherwise}
 use Rattle.nodes.proofs.Build.{far, rebased}
 use Rattle.expressions.proofs.Forms.{brackets_deep, brackets_refused, brackets_unclosed, made_brackets, primary_none, made_integer, made_text, paren_refused, made_paren, form_refused, made_form, variable_ends, counts, form_of, left_refused, left_goes, dot_refused, dot_goes, made_name, called_deep, made_call, argument_refused, argument_unclosed, first_argument, made_element, more_refused, more_goes, more_unclosed, made_calls}
-use Rattle.expressions.proofs.Levels.{monads_more, term_refused, term_plain, term_monad, term_ends, no_stop, no_operator, level_zero, level_up, level_refused, level_goes, level_ends, expr_made, expr_refused}
+use Rattle.expressions.proofs.Levels.{monads_there, monads_end, term_refused, term_plain, term_monad, term_ends, no_stop, no_operator, level_zero, level_up, level_refused, level_goes, level_ends, expr_made, expr_refused}
 use Rattle.grammar.proofs.Tests.{said, differs, agrees}
 use Rattle.expressions.proofs.+expressions.Goals as goal
 
@@ -164,26 +164,23 @@ primary-returns-in_default t c =
     let is = c.peek.ensures.is in
     primary_none c.args.from.depth c.args.from.symbols.now c.args.from.next c.requires.within (λ e. c.in_default.not-Integer (is ∙ e)) (λ e. c.in_default.not-Text (is ∙ e)) (λ e. c.in_default.not-Name (is ∙ e)) (λ e. c.in_default.not-Left (is ∙ e))
 
-pub term-loop-k-preserved : goal.term-loop-k-preserved
-term-loop-k-preserved t c =
-    let q : among monadics c.peek.result ≡ true = sym c.monadic.ensures ∙ c.loop-k-test.true in
-    monads_more c.args.from.depth c.args.from.symbols.now c.args.from.next c.loop-k.k (c.peek.ensures.there (no_operator _ q)) (ap (among monadics) (sym c.peek.ensures.is) ∙ q) c.loop-k.invariant
-
 pub term-returns-in_err-at : goal.term-returns-in_err-at
 term-returns-in_err-at t c =
     let p = err_from_is_err_and c.from_residual.result c.from_residual.ensures.1 in
-    rw (p.1, p.2) (term_refused c.args.from.depth c.args.from.symbols.now c.args.from.next c.loop-k.k c.args.from.used c.loop-k.invariant (ap (among monadics) (sym c.peek.ensures.is) ∙ sym c.monadic.ensures ∙ c.loop-k-test.false) _ c.in_err-at.ensures)
+    let m = monads_there c.args.from.depth c.args.from.symbols.now c.args.from.next c.monads.result c.requires.within c.monads.ensures.is in
+    rw (p.1, p.2) (term_refused c.args.from.depth c.args.from.symbols.now c.args.from.next (c.args.from.next + c.monads.result) c.args.from.used m (monads_end c.args.from.symbols.now c.args.from.next c.monads.result c.requires.within c.monads.ensures.is) _ c.in_err-at.ensures)
 
-pub term-loop-k-2-init : goal.term-loop-k-2-init
-term-loop-k-2-init t c = (c.loop-k.invariant.low, term_plain c.args.from.depth c.args.from.symbols.now c.args.from.next c.loop-k.k c.args.from.used _ _ c.in_ok-at.at (ap (among monadics) (sym c.peek.ensures.is) ∙ sym c.monadic.ensures ∙ c.loop-k-test.false) c.in_ok-at.ensures, c.loop-k.invariant.each)
+pub term-loop-k-init : goal.term-loop-k-init
+term-loop-k-init t c = (omega arith, term_plain c.args.from.depth c.args.from.symbols.now c.args.from.next (c.args.from.next + c.monads.result) c.args.from.used _ _ c.in_ok-at.at (monads_end c.args.from.symbols.now c.args.from.next c.monads.result c.requires.within c.monads.ensures.is) c.in_ok-at.ensures)
 
-pub term-loop-k-2-preserved : goal.term-loop-k-2-preserved
-term-loop-k-2-preserved t c =
-    let v = c.loop-k-2.invariant in
-    (omega arith, term_monad c.args.from.depth c.args.from.symbols.now c.args.from.next c.loop-k-2.k c.args.from.used _ _ c.loop-k-2.at _ (omega arith) (omega arith) (v.2 (c.loop-k-2.k - 1) (omega arith) (omega arith)) c.peek-in-loop-k-2.ensures.is (omega arith) v.1, λ j a b. v.2 j a (omega arith))
+pub term-loop-k-preserved : goal.term-loop-k-preserved
+term-loop-k-preserved t c =
+    let m = monads_there c.args.from.depth c.args.from.symbols.now c.args.from.next c.monads.result c.requires.within c.monads.ensures.is in
+    let v = c.loop-k.invariant in
+    (omega arith, term_monad c.args.from.depth c.args.from.symbols.now c.args.from.next c.loop-k.k c.args.from.used _ _ c.loop-k.at _ (omega arith) (omega arith) (m.each (c.loop-k.k - 1) (omega arith) (omega arith)) c.peek.ensures.is (omega arith) v.1)
 
 pub term-returns : goal.term-returns
-term-returns t c = term_ends c.args.from.depth c.args.from.symbols.now c.args.from.next c.loop-k-2.k c.args.from.used _ _ _ c.loop-k-2.at (omega arith) c.in_ok-at.ensures.kept c.loop-k-2.invariant.1
+term-returns t c = term_ends c.args.from.depth c.args.from.symbols.now c.args.from.next c.loop-k.k c.args.from.used _ _ _ c.loop-k.at (omega (arith, c.loop-k.invariant.0)) c.in_ok-at.ensures.kept c.loop-k.invariant.1
 
 pub variable-loop-nodes-init : goal.variable-loop-nodes-init
 variable-loop-nodes-init t c = (c.requires.counted, λ b m. m)

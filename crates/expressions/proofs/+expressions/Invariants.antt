@@ -47,16 +47,7 @@ abbrev pub decreases-level-loop-nodes : goal.decreases-level-loop-nodes
 decreases-level-loop-nodes l = length l.from.symbols.now - l.at.next
 
 abbrev pub invariant-term-loop-k : goal.invariant-term-loop-k
-invariant-term-loop-k l = Monads l.from.depth l.from.symbols.now l.from.next l.k
-
-abbrev pub decreases-term-loop-k : goal.decreases-term-loop-k
-decreases-term-loop-k l = length l.from.symbols.now - l.k
-
-abbrev pub invariant-term-loop-k-2 : goal.invariant-term-loop-k-2
-invariant-term-loop-k-2 l = (l.from.next ≤ l.k) × Made 0 Term IsTerm of_term (Way (a_term ∷ []) l.from.depth l.from.symbols.now l.k) l.from.symbols.now l.k l.from.used l.initial.nodes l.nodes l.at × ((j : ℕ) → l.from.next ≤ j → j < l.k → among monadics (get_or l.from.symbols.now j STOP) ≡ true)
-
-abbrev pub decreases-term-loop-k-2 : goal.decreases-term-loop-k-2
-decreases-term-loop-k-2 l = l.k - l.from.next
+invariant-term-loop-k l = (l.from.next ≤ l.k) × Made 0 Term IsTerm of_term (Way (a_term ∷ []) l.from.depth l.from.symbols.now l.k) l.from.symbols.now l.k l.from.used l.initial.nodes l.nodes l.at
 
 abbrev pub invariant-variable-loop-nodes : goal.invariant-variable-loop-nodes
 invariant-variable-loop-nodes l = Counted l.from.symbols.now l.from.next l.from.used l.at × ((b : Opening) → VariableMade b l.from.depth l.from.symbols.now l.from.next l.from.used l.initial.nodes l.initial.nodes l.initial.at → VariableMade b l.from.depth l.from.symbols.now l.from.next l.from.used l.initial.nodes l.nodes l.at)
