@@ -1,15 +1,15 @@
-use Rattle.std.proofs.Common.{◌≡◌, ◌+◌, ◌-◌, ◌<◌, true, ◌∷◌, length, set, sym, refl, ap, ◌∙◌, arith, length-set}
+use Rattle.std.proofs.Common.{◌+◌, ◌-◌, ◌<◌, ◌∷◌, length, set, sym, refl, ap, ◌∙◌, arith, length-set}
 use Rattle.std.proofs.lemmas.Result.{err_from_is_err_and}
-use Rattle.grammar.specs.Symbols.{among, NAME, INTEGER, TEXT, LEFT, RIGHT, COMMA, DOT}
+use Rattle.grammar.specs.Symbols.{NAME, INTEGER, TEXT, LEFT, RIGHT, COMMA, DOT}
 use Rattle.grammar.specs.Machine.{links_on}
 use Rattle.nodes.specs.Nodes.{Agree}
 use Rattle.nodes.specs.declared.Node.TheVariants.{Name, Element}
-use Rattle.nodes.specs.Made.{by_name, monadics, rank as rank_of}
+use Rattle.nodes.specs.Made.{by_name, rank as rank_of}
 use Rattle.nodes.proofs.Keep.{agree_set, at_set, agree_trans}
 use Rattle.nodes.proofs.Results.{otherwise}
 use Rattle.nodes.proofs.Build.{far, rebased}
 use Rattle.expressions.proofs.Forms.{brackets_deep, brackets_refused, brackets_unclosed, made_brackets, primary_none, made_integer, made_text, paren_refused, made_paren, form_refused, made_form, variable_ends, counts, form_of, left_refused, left_goes, dot_refused, dot_goes, made_name, called_deep, made_call, argument_refused, argument_unclosed, first_argument, made_element, more_refused, more_goes, more_unclosed, made_calls}
-use Rattle.expressions.proofs.Levels.{monads_there, monads_end, term_refused, term_plain, term_monad, term_ends, no_stop, no_operator, level_zero, level_up, level_refused, level_goes, level_ends, expr_made, expr_refused}
+use Rattle.expressions.proofs.Levels.{monads_there, monads_end, term_refused, term_plain, term_monad, term_ends, no_stop, level_zero, level_up, level_refused, level_goes, level_ends, expr_made, expr_refused}
 use Rattle.grammar.proofs.Tests.{said, differs, agrees}
 use Rattle.expressions.proofs.+expressions.Goals as goal
 

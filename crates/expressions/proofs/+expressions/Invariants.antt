@@ -1,8 +1,7 @@
-use Rattle.std.proofs.Common.{◌≡◌, ℕ, suc, ◌+◌, ◌-◌, ◌*◌, ◌<◌, ◌≤◌, true, [], ◌∷◌, length, get_or}
-use Rattle.grammar.specs.Symbols.{among, STOP}
+use Rattle.std.proofs.Common.{suc, ◌+◌, ◌-◌, ◌*◌, ◌≤◌, [], ◌∷◌, length}
 use Rattle.grammar.specs.Trees.{Expr, Exprs, Term, of_expr, of_exprs, of_term}
 use Rattle.grammar.specs.Machine.{a_term}
-use Rattle.nodes.specs.Made.{Made, Way, LevelWay, Opening, Counted, ArgsWay, Monads, monadics}
+use Rattle.nodes.specs.Made.{Made, Way, LevelWay, Opening, Counted, ArgsWay}
 use Rattle.nodes.specs.Nodes.{IsExpr, IsExprs, IsTerm}
 use Rattle.expressions.proofs.Forms.{VariableMade}
 use Rattle.expressions.proofs.+expressions.Given as goal
