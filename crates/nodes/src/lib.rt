@@ -103,6 +103,8 @@ pub enum Fault {
 
 /// Where reading stands: the terminals of the module, the number of the next one, how many brackets may still open, and how many nodes are
 /// used.
+// That `next` is within the terminals is a clause, and no ghost field: of a struct with one, Rattle takes no literal with `..from` (tried), and
+// each spot that is made would name all its fields.
 // The number of used nodes goes with the spot, and not with the table: a form may be read again from an earlier spot, and then its nodes
 // are overwritten with nothing to take back.
 #[derive(Clone, Copy)]

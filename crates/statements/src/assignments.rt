@@ -25,11 +25,7 @@ enum Shape {
 fn node_at(nodes: &[Node], k: usize) -> Node
     ensures { result ≡ slice_index_or nodes.now k blank_node }
 {
-    if k < nodes.len() {
-        nodes[k]
-    } else {
-        Node::Integer(0)
-    }
+    nodes.get(k).copied().unwrap_or(Node::Integer(0))
 }
 
 /// What the form is whose node has the index k.
