@@ -124,6 +124,7 @@ impl Place {
         ensures few { result ≤ 65536 }
     {
         let before = self.text_before(text);
+        // `as`, here and in `column`: a place has 16 bits, so an error of `try_from` would never come.
         1 + before.iter().filter(|b| **b == b'\n').count() as u32
     }
 

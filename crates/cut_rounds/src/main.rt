@@ -12,6 +12,7 @@ fn rounds(text: &[u8], count: u32) -> u64 {
     let mut total: u64 = 0;
     for _ in 0..count {
         if cut(text, &mut table).is_ok() {
+            // `as`: there is no `From` from `usize`, and an error of `try_from` would never come.
             total = total.wrapping_add(table.items().len() as u64);
         }
     }

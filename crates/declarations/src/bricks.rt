@@ -47,7 +47,7 @@ pub fn modes(from: Spot<'_>, nodes: &mut [Node]) -> Result<Parsed, Fault>
     read_list(ModeList, from, nodes)
 }
 
-/// The declaration of arrays, ARRAY being at i.
+/// The declaration of arrays, ARRAY being there.
 fn arrays<D: Declares>(of: D, from: Spot<'_>, nodes: &mut [Node]) -> Result<Parsed, Fault>
     requires array { slice_index_or from.symbols.now from.next STOP ≡ ARRAY }
     requires there { from.next < length from.symbols.now }
@@ -90,7 +90,7 @@ fn arrays<D: Declares>(of: D, from: Spot<'_>, nodes: &mut [Node]) -> Result<Pars
     })
 }
 
-/// The declaration of records, the name of their mode being at i.
+/// The declaration of records, the name of their mode being there.
 fn structures<D: Declares>(of: D, from: Spot<'_>, nodes: &mut [Node]) -> Result<Parsed, Fault>
     requires name { slice_index_or from.symbols.now from.next STOP ≡ NAME }
     requires there { from.next < length from.symbols.now }
@@ -113,7 +113,7 @@ fn structures<D: Declares>(of: D, from: Spot<'_>, nodes: &mut [Node]) -> Result<
     })
 }
 
-/// The declaration of variables of a simple mode, which begins at i.
+/// The declaration of variables of a simple mode, which begins there.
 fn variables<D: Declares>(of: D, from: Spot<'_>, nodes: &mut [Node]) -> Result<Parsed, Fault>
     requires begins { among mode_firsts (slice_index_or from.symbols.now from.next STOP) ≡ true }
     requires there { from.next < length from.symbols.now }

@@ -5,7 +5,7 @@ pub mod bricks;
 pub mod locals;
 
 ghost use Rattle.std.specs.Prelude.{◌≡◌, ℕ, ◌+◌, ◌-◌, ◌*◌, ◌<◌, ◌≤◌, true, [], ◌∷◌, length, MatchResult, slice_index_or};
-ghost use Rattle.nodes.specs.Made.{Made, Way, Refused, FieldsWay, Shares, of_shared, NamesWay, Room, ReadsTo};
+ghost use Rattle.nodes.specs.Made.{Made, Way, Refused, FieldsWay, Shares, of_shared, NamesWay, Room, ReadsTo, Reads};
 ghost use Rattle.nodes.specs.Nodes.{IsExpr, IsMode, IsAmode, IsFields, IsValue, IsValues, IsEntry, IsMany, IsName, IsInit};
 ghost use Rattle.grammar.specs.Symbols.{Says, among, STOP, LEFT, COMMA, REF, ARRAY, PLUS, MINUS};
 ghost use Rattle.grammar.specs.Trees.{Expr, of_expr, Mode, Amode, of_mode, of_amode, Fields, Value, Values, Entry, of_fields, of_value, of_values, of_entry, Many, Init, of_init, of_inits, of_name, of_names};
@@ -20,7 +20,7 @@ use grammar::Symbol;
 use nodes::lists::{Entries, read_list};
 use nodes::{Fault, Node, Parsed, Spot};
 
-// The mode of an array's elements.
+/// The mode of an array's elements.
 #[cycle(modes)]
 pub fn amode(from: Spot<'_>, nodes: &mut [Node]) -> Result<Parsed, Fault>
     requires within { from.next ≤ length from.symbols.now }
@@ -38,7 +38,7 @@ pub fn amode(from: Spot<'_>, nodes: &mut [Node]) -> Result<Parsed, Fault>
     mode(from, nodes)
 }
 
-// A mode that refers to an array, REF being at i, ARRAY behind it.
+/// A mode that refers to an array, REF being there, ARRAY behind it.
 #[cycle(modes)]
 fn array_mode(from: Spot<'_>, nodes: &mut [Node]) -> Result<Parsed, Fault>
     requires refers { slice_index_or from.symbols.now from.next STOP ≡ REF }
@@ -83,7 +83,7 @@ fn array_mode(from: Spot<'_>, nodes: &mut [Node]) -> Result<Parsed, Fault>
     })
 }
 
-// A mode that begins with REF at i.
+/// A mode that begins with REF there.
 #[cycle(modes)]
 fn reference(from: Spot<'_>, nodes: &mut [Node]) -> Result<Parsed, Fault>
     requires refers { slice_index_or from.symbols.now from.next STOP ≡ REF }
@@ -153,13 +153,10 @@ pub fn mode(from: Spot<'_>, nodes: &mut [Node]) -> Result<Parsed, Fault>
 pub fn begins_mode(c: Symbol) -> bool
     ensures { result ≡ among mode_firsts c }
 {
-    match c {
-        Symbol::Int | Symbol::Byte | Symbol::Ref => true,
-        _ => false,
-    }
+    matches!(c, Symbol::Int | Symbol::Byte | Symbol::Ref)
 }
 
-// One more component or parameter, a comma being at the end of `at`.
+/// One more component or parameter, a comma being at the end of `at`.
 fn further(from: Spot<'_>, nodes: &mut [Node], at: Parsed) -> Result<Parsed, Fault>
     requires comma { slice_index_or from.symbols.now at.next STOP ≡ COMMA }
     requires there { at.next < length from.symbols.now }
@@ -194,7 +191,8 @@ fn further(from: Spot<'_>, nodes: &mut [Node], at: Parsed) -> Result<Parsed, Fau
     })
 }
 
-// The components of a record mode, or the parameters of a procedure.
+/// The components of a record mode, or the parameters of a procedure.
+// Not `read_list`: the first has a mode, and those behind it may have none.
 pub fn fields(from: Spot<'_>, nodes: &mut [Node]) -> Result<Parsed, Fault>
     requires within { from.next ≤ length from.symbols.now }
     requires room { Room 0 from nodes.old }
@@ -216,7 +214,7 @@ pub fn fields(from: Spot<'_>, nodes: &mut [Node]) -> Result<Parsed, Fault>
     Ok(at)
 }
 
-// An initial value with its sign at i.
+/// An initial value with its sign there.
 fn signed(from: Spot<'_>, nodes: &mut [Node]) -> Result<Parsed, Fault>
     requires sign { among (PLUS ∷ MINUS ∷ []) (slice_index_or from.symbols.now from.next STOP) ≡ true }
     requires there { from.next < length from.symbols.now }
@@ -238,7 +236,7 @@ fn signed(from: Spot<'_>, nodes: &mut [Node]) -> Result<Parsed, Fault>
     })
 }
 
-// A list of initial values, its bracket being at i.
+/// A list of initial values, its bracket being there.
 #[cycle(initials)]
 fn list(from: Spot<'_>, nodes: &mut [Node]) -> Result<Parsed, Fault>
     requires opening { slice_index_or from.symbols.now from.next STOP ≡ LEFT }
@@ -276,7 +274,7 @@ fn list(from: Spot<'_>, nodes: &mut [Node]) -> Result<Parsed, Fault>
     })
 }
 
-// An initial value in a data brick.
+/// An initial value in a data brick.
 #[cycle(initials)]
 fn value(from: Spot<'_>, nodes: &mut [Node]) -> Result<Parsed, Fault>
     requires within { from.next ≤ length from.symbols.now }
@@ -314,7 +312,7 @@ fn value(from: Spot<'_>, nodes: &mut [Node]) -> Result<Parsed, Fault>
     }
 }
 
-// A value of a list, and how often it stands.
+/// A value of a list, and how often it stands.
 #[cycle(initials)]
 fn entry(from: Spot<'_>, nodes: &mut [Node]) -> Result<Parsed, Fault>
     requires within { from.next ≤ length from.symbols.now }
@@ -342,7 +340,7 @@ fn entry(from: Spot<'_>, nodes: &mut [Node]) -> Result<Parsed, Fault>
     })
 }
 
-// Values of a list, separated by commas. (Not `read_list`: tried, and a cycle through a trait leaves its proof to be written by hand.)
+/// Values of a list, separated by commas. (Not `read_list`: tried, and a cycle through a trait leaves its proof to be written by hand.)
 #[cycle(initials)]
 fn values(from: Spot<'_>, nodes: &mut [Node]) -> Result<Parsed, Fault>
     requires within { from.next ≤ length from.symbols.now }
@@ -369,14 +367,14 @@ fn values(from: Spot<'_>, nodes: &mut [Node]) -> Result<Parsed, Fault>
     Ok(at)
 }
 
-// Whether a name that shares an initial value is at i.
+/// Whether a name that shares an initial value is there.
 fn shares(from: Spot<'_>, i: usize) -> bool
     ensures { Says result (Shares from.entry.symbols.now i) }
 {
     from.peek(i) == Symbol::Name && from.peek(i + 1) == Symbol::Becomes
 }
 
-// The names that share an initial value, the first being there.
+/// The names that share an initial value, the first being there.
 fn shared(from: Spot<'_>, nodes: &mut [Node]) -> Parsed
     requires first { Shares from.symbols.now from.next }
     requires room { Room 0 from nodes.old }
@@ -506,7 +504,7 @@ fn initialized<V: Initial>(of: V, from: Spot<'_>, nodes: &mut [Node]) -> Result<
     })
 }
 
-// A name that is described or declared without a value.
+/// A name that is described or declared without a value.
 fn bare_name(from: Spot<'_>, nodes: &mut [Node]) -> Result<Parsed, Fault>
     requires within { from.next ≤ length from.symbols.now }
     requires room { Room 0 from nodes.old }

@@ -1,6 +1,6 @@
 //! Reading the locals of a body into nodes.
 ghost use Rattle.std.specs.Prelude.{◌≡◌, ◌+◌, ◌*◌, ◌<◌, ◌≤◌, true, [], ◌∷◌, length, MatchResult, slice_index_or};
-ghost use Rattle.nodes.specs.Made.{Made, Refused, Room};
+ghost use Rattle.nodes.specs.Made.{Made, Refused, Room, Reads, ReadsFewer};
 ghost use Rattle.nodes.specs.Nodes.{IsLocal, IsLocals};
 ghost use Rattle.grammar.specs.Symbols.{among, STOP};
 ghost use Rattle.grammar.specs.Trees.{Local, Locals, of_locals};
@@ -12,12 +12,12 @@ use crate::{InBlock, begins_mode, mode, names};
 use grammar::Symbol;
 use nodes::{Fault, Node, Parsed, Spot};
 
-/// One declaration of locals with its semicolon, its mode beginning at i.
+/// One declaration of locals with its semicolon, its mode beginning there.
 fn local(from: Spot<'_>, nodes: &mut [Node]) -> Result<Parsed, Fault>
     requires begins { among mode_firsts (slice_index_or from.symbols.now from.next STOP) ≡ true }
     requires there { from.next < length from.symbols.now }
     requires room { Room 0 from nodes.old }
-    ensures { MatchResult result (λ p. Made 0 Local IsLocal of_ended (LocalWay from.entry.depth from.entry.symbols.now from.entry.next) from.entry.symbols.now from.entry.next from.entry.used nodes.old nodes.new p × (p.used + 2 * from.entry.next < 2 * p.next + from.entry.used)) (λ f. Refused (a_body ∷ []) from.entry.depth from.entry.symbols.now from.entry.next f) }
+    ensures { ReadsFewer 0 Local IsLocal of_ended LocalWay (Refused (a_body ∷ [])) from.entry nodes.old nodes.new result }
 {
     let m = mode(from, nodes)?;
     let n = names(
@@ -44,7 +44,7 @@ fn local(from: Spot<'_>, nodes: &mut [Node]) -> Result<Parsed, Fault>
 pub fn locals(from: Spot<'_>, nodes: &mut [Node]) -> Result<Parsed, Fault>
     requires within { from.next ≤ length from.symbols.now }
     requires room { Room 1 from nodes.old }
-    ensures { MatchResult result (λ p. Made 1 Locals IsLocals of_locals (LocalsWay from.entry.depth from.entry.symbols.now from.entry.next) from.entry.symbols.now from.entry.next from.entry.used nodes.old nodes.new p) (λ f. Refused (a_body ∷ []) from.entry.depth from.entry.symbols.now from.entry.next f) }
+    ensures { Reads 1 Locals IsLocals of_locals LocalsWay (Refused (a_body ∷ [])) from.entry nodes.old nodes.new result }
 {
     nodes[from.used] = Node::NoLocals;
     let mut at = Parsed {

@@ -3,7 +3,7 @@
 
 ghost use Rattle.std.specs.List.{prefix_len};
 ghost use Rattle.std.specs.Prelude.{◌≡◌, ◌+◌, ◌-◌, ◌*◌, ◌<◌, ◌≤◌, [], ◌∷◌, length, MatchResult, slice_index_or};
-ghost use Rattle.nodes.specs.Made.{Made, Way, Refused, LevelWay, LevelRefused, FormWay, FormRefused, Opening, PartsWay, VariableWay, VariableRefused, Counted, ArgsWay, rank as rank_of, monadics, comparators, Room, ReadsTo};
+ghost use Rattle.nodes.specs.Made.{Made, Way, Refused, LevelWay, LevelRefused, FormWay, FormRefused, Opening, PartsWay, VariableWay, VariableRefused, Counted, ArgsWay, rank as rank_of, monadics, comparators, Room, ReadsTo, Reads, ReadsFewer};
 ghost use Rattle.nodes.specs.Nodes.{IsExpr, IsExprs, IsPrimary, IsTerm, IsVariable, IsComparison, IsSubcondition, IsCondition};
 ghost use Rattle.grammar.specs.Symbols.{among, STOP, LEFT, RIGHT, NAME};
 ghost use Rattle.grammar.specs.Trees.{Expr, Exprs, Primary, Term, Variable, token, key, of_expr, of_exprs, of_primary, of_term, of_variable, Comparison, Subcondition, Condition, of_comparison, of_subcondition, of_condition};
@@ -15,7 +15,8 @@ use grammar::Symbol;
 use nodes::lists::{Entries, read_list};
 use nodes::{Fault, Node, Parsed, Spot};
 
-// How loosely an operator binds; 5 for any other terminal.
+/// How loosely an operator binds; 5, above them all, for any other terminal.
+// No Option: a level is compared with it at each turn of a loop, where one would be opened each time.
 fn rank(c: Symbol) -> usize
     ensures { result ≡ rank_of c }
 {
@@ -32,11 +33,10 @@ fn rank(c: Symbol) -> usize
 fn monadic(c: Symbol) -> bool
     ensures { result ≡ among monadics c }
 {
-    match c {
-        Symbol::Plus | Symbol::Minus | Symbol::Abs | Symbol::Not | Symbol::Byte | Symbol::Length =>
-            true,
-        _ => false,
-    }
+    matches!(
+        c,
+        Symbol::Plus | Symbol::Minus | Symbol::Abs | Symbol::Not | Symbol::Byte | Symbol::Length
+    )
 }
 
 /// How many monadic operators the terminals begin with.
@@ -47,13 +47,13 @@ fn monads(symbols: &[Symbol]) -> usize
     symbols.iter().take_while(|c| monadic(**c)).count()
 }
 
-// '(' expr ')', the bracket being at i
+/// '(' expr ')', the bracket being there
 #[cycle(expressions)]
 pub fn bracketed(from: Spot<'_>, nodes: &mut [Node]) -> Result<Parsed, Fault>
     requires opening { slice_index_or from.symbols.now from.next STOP ≡ LEFT }
     requires within { from.next < length from.symbols.now }
     requires room { Room 0 from nodes.old }
-    ensures { MatchResult result (λ p. Made 0 (Expr 5) IsExpr (λ e rest. token LEFT from.entry.next ∷ of_expr e (key RIGHT ∷ rest)) (Way (tok LEFT ∷ an_expr ∷ tok RIGHT ∷ []) from.entry.depth from.entry.symbols.now from.entry.next) from.entry.symbols.now from.entry.next from.entry.used nodes.old nodes.new p × (p.used + 2 * from.entry.next < 2 * p.next + from.entry.used)) (λ f. Refused (tok LEFT ∷ an_expr ∷ tok RIGHT ∷ []) from.entry.depth from.entry.symbols.now from.entry.next f) }
+    ensures { ReadsFewer 0 (Expr 5) IsExpr (λ e rest. token LEFT from.entry.next ∷ of_expr e (key RIGHT ∷ rest)) (Way (tok LEFT ∷ an_expr ∷ tok RIGHT ∷ [])) (Refused (tok LEFT ∷ an_expr ∷ tok RIGHT ∷ [])) from.entry nodes.old nodes.new result }
 {
     if from.depth == 0 {
         return Err(Fault::Deep(from.next));
@@ -77,12 +77,12 @@ pub fn bracketed(from: Spot<'_>, nodes: &mut [Node]) -> Result<Parsed, Fault>
     }
 }
 
-// The further parts of a variable whose name is at i, and which was read up to `start`.
+/// The further parts of a variable whose name is there, and which was read up to `start`.
 #[cycle(expressions)]
 pub fn variable(from: Spot<'_>, nodes: &mut [Node], start: Parsed) -> Result<Parsed, Fault>
     requires room { Room 0 from nodes.old }
     requires counted { Counted from.symbols.now from.next from.used start }
-    ensures { (b : Opening) → Made 0 Variable IsVariable of_variable (PartsWay b from.entry.depth from.entry.symbols.now from.entry.next) from.entry.symbols.now from.entry.next from.entry.used nodes.old nodes.old start → MatchResult result (λ p. Made 0 Variable IsVariable of_variable (VariableWay b from.entry.depth from.entry.symbols.now from.entry.next) from.entry.symbols.now from.entry.next from.entry.used nodes.old nodes.new p) (λ f. VariableRefused b from.entry.depth from.entry.symbols.now from.entry.next f) }
+    ensures { (b : Opening) → Made 0 Variable IsVariable of_variable (PartsWay b from.entry.depth from.entry.symbols.now from.entry.next) from.entry.symbols.now from.entry.next from.entry.used nodes.old nodes.old start → Reads 0 Variable IsVariable of_variable (VariableWay b) (VariableRefused b) from.entry nodes.old nodes.new result }
 {
     let mut at = start;
     loop {
@@ -121,7 +121,7 @@ pub fn variable(from: Spot<'_>, nodes: &mut [Node], start: Parsed) -> Result<Par
 
 // Not `read_list`, here and in `level`: the first expression is read before it is known that a list begins; and a cycle of functions through
 // a trait leaves its whole proof to be written by hand (tried at the values of a list).
-// The further expressions of a call whose name is at i, its first expression having been read up to `at`, where a comma is.
+/// The further expressions of a call whose name is there, its first expression having been read up to `at`, where a comma is.
 #[cycle(expressions)]
 fn calls(from: Spot<'_>, nodes: &mut [Node], at: Parsed) -> Result<Parsed, Fault>
     requires deep { 0 < from.depth }
@@ -130,7 +130,7 @@ fn calls(from: Spot<'_>, nodes: &mut [Node], at: Parsed) -> Result<Parsed, Fault
     requires within { from.next + 1 < length from.symbols.now }
     requires room { Room 0 from nodes.old }
     requires begun { Made 0 Exprs IsExprs of_exprs (ArgsWay from.depth from.symbols.now from.next) from.symbols.now (from.next + 2) (from.used + 1) nodes.old nodes.old at }
-    ensures { MatchResult result (λ p. Made 0 Primary IsPrimary of_primary (FormWay from.entry.depth from.entry.symbols.now from.entry.next) from.entry.symbols.now from.entry.next from.entry.used nodes.old nodes.new p) (λ f. FormRefused from.entry.depth from.entry.symbols.now from.entry.next f) }
+    ensures { Reads 0 Primary IsPrimary of_primary FormWay FormRefused from.entry nodes.old nodes.new result }
 {
     let mut at = at;
     while from.peek(at.next) == Symbol::Comma {
@@ -161,14 +161,14 @@ fn calls(from: Spot<'_>, nodes: &mut [Node], at: Parsed) -> Result<Parsed, Fault
     })
 }
 
-// A form whose name is at i, a bracket behind it.
+/// A form whose name is there, a bracket behind it.
 #[cycle(expressions)]
 fn applied(from: Spot<'_>, nodes: &mut [Node]) -> Result<Parsed, Fault>
     requires named { slice_index_or from.symbols.now from.next STOP ≡ NAME }
     requires opening { slice_index_or from.symbols.now (from.next + 1) STOP ≡ LEFT }
     requires within { from.next + 1 < length from.symbols.now }
     requires room { Room 0 from nodes.old }
-    ensures { MatchResult result (λ p. Made 0 Primary IsPrimary of_primary (FormWay from.entry.depth from.entry.symbols.now from.entry.next) from.entry.symbols.now from.entry.next from.entry.used nodes.old nodes.new p) (λ f. FormRefused from.entry.depth from.entry.symbols.now from.entry.next f) }
+    ensures { Reads 0 Primary IsPrimary of_primary FormWay FormRefused from.entry nodes.old nodes.new result }
 {
     if from.depth == 0 {
         return Err(Fault::Deep(from.next + 1));
@@ -206,13 +206,13 @@ fn applied(from: Spot<'_>, nodes: &mut [Node]) -> Result<Parsed, Fault>
     }
 }
 
-// A form whose name is at i.
+/// A form whose name is there.
 #[cycle(expressions)]
 pub fn form(from: Spot<'_>, nodes: &mut [Node]) -> Result<Parsed, Fault>
     requires named { slice_index_or from.symbols.now from.next STOP ≡ NAME }
     requires within { from.next < length from.symbols.now }
     requires room { Room 0 from nodes.old }
-    ensures { MatchResult result (λ p. Made 0 Primary IsPrimary of_primary (FormWay from.entry.depth from.entry.symbols.now from.entry.next) from.entry.symbols.now from.entry.next from.entry.used nodes.old nodes.new p) (λ f. FormRefused from.entry.depth from.entry.symbols.now from.entry.next f) }
+    ensures { Reads 0 Primary IsPrimary of_primary FormWay FormRefused from.entry nodes.old nodes.new result }
 {
     if from.peek(from.next + 1) == Symbol::Left {
         return applied(from, nodes);
@@ -282,13 +282,13 @@ fn term(from: Spot<'_>, nodes: &mut [Node]) -> Result<Parsed, Fault>
     Ok(at)
 }
 
-// An expression of the level n.
+/// An expression of the level n.
 #[cycle(expressions)]
 fn level(from: Spot<'_>, nodes: &mut [Node], n: usize) -> Result<Parsed, Fault>
     requires level { n ≤ 5 }
     requires within { from.next ≤ length from.symbols.now }
     requires room { Room 0 from nodes.old }
-    ensures { MatchResult result (λ p. Made 0 (Expr n) IsExpr of_expr (LevelWay n from.entry.depth from.entry.symbols.now from.entry.next) from.entry.symbols.now from.entry.next from.entry.used nodes.old nodes.new p) (λ f. LevelRefused from.entry.depth from.entry.symbols.now from.entry.next f) }
+    ensures { Reads 0 (Expr n) IsExpr of_expr (LevelWay n) LevelRefused from.entry nodes.old nodes.new result }
 {
     if n == 0 {
         return term(from, nodes);
@@ -326,17 +326,17 @@ pub fn expr(from: Spot<'_>, nodes: &mut [Node]) -> Result<Parsed, Fault>
 fn comparator(c: Symbol) -> bool
     ensures { result ≡ among comparators c }
 {
-    match c {
+    matches!(
+        c,
         Symbol::Equal
-        | Symbol::Hash
-        | Symbol::Less
-        | Symbol::AtMost
-        | Symbol::More
-        | Symbol::AtLeast
-        | Symbol::Is
-        | Symbol::Isnt => true,
-        _ => false,
-    }
+            | Symbol::Hash
+            | Symbol::Less
+            | Symbol::AtMost
+            | Symbol::More
+            | Symbol::AtLeast
+            | Symbol::Is
+            | Symbol::Isnt
+    )
 }
 
 fn comparison(from: Spot<'_>, nodes: &mut [Node]) -> Result<Parsed, Fault>

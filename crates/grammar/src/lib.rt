@@ -8,6 +8,7 @@ ghost use Rattle.grammar.specs.Machine.{RunRight, ViableFronts, Accepted};
 ghost use Rattle.grammar.specs.Examples.{Examples};
 
 /// The symbols of a module: what an item counts as in the syntax. `Stop` stands behind the last item.
+// Not `symbols::Symbol`: that has no mark past the end and two levels, and a match would say `Symbol::Mark(Separator::LeftBracket)` for `Left`.
 #[derive(Clone, Copy, PartialEq, Eq)]
 pub enum Symbol {
     Stop,

@@ -64,6 +64,7 @@ pub fn step(text: &[u8], at: usize) -> Result<Passed, Decline>
             end: at + 1,
         });
     }
+    // No `map_err`: tried, and that the place of the stop has 16 bits stays open, since it hangs on which stop came.
     match next_item(&text[at..]) {
         Ok(item) if is_too_large(item) => Err(Decline::IntegerTooLarge(place(at))),
         Ok(item) => Ok(Passed {

@@ -12,7 +12,7 @@ use symbols::{Entry, Symbol};
 pub const MAX_ITEMS: usize = 4096;
 
 /// The items of a text, in their order.
-// No `ArrayVec`: its `clear` writes a blank over each entry, and it hides the blanks that `new` promises.
+// No `ArrayVec`: it hides what stands behind its items, and `new` promises blanks there.
 #[derive(Clone, Copy)]
 pub struct ItemTable {
     entries: [Entry; 4096],

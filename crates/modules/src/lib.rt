@@ -6,7 +6,7 @@ ghost use Rattle.grammar.specs.Symbols.{among, STOP, COMMA, DATA, PROC, EXT, MOD
 ghost use Rattle.grammar.specs.Trees.{Opt, of_opt, Many, of_many, Dec, Fields, of_fields, Mode, of_mode, Brick, of_brick, Moditem, of_moditem, Module, of_module};
 ghost use Rattle.grammar.specs.Sentences.{fine, Made as MadeOf};
 ghost use Rattle.grammar.specs.Machine.{each, all, moditems, maybe_fields, maybe_mode, maybe_modes, a_brick, a_module, run};
-ghost use Rattle.nodes.specs.Made.{Made, Way, Refused, answer, Room, ReadsTo};
+ghost use Rattle.nodes.specs.Made.{Made, Way, Refused, answer, Room, ReadsTo, ReadsFewer};
 ghost use Rattle.nodes.specs.Nodes.{IsOpt, IsMany, IsDec, IsFields, IsMode, IsBrick, IsModitem, IsModule};
 ghost use Rattle.declarations.specs.Declaring.{Listing, IsListing};
 ghost use Rattle.modules.specs.Bricks.{brick_firsts, Storing, of_storing, Head, of_head, IsHead, HeadWay};
@@ -77,7 +77,7 @@ fn maybe_modes(from: Spot<'_>, nodes: &mut [Node]) -> Result<Parsed, Fault>
     })
 }
 
-/// The name of a data brick, at i, and its declarations up to ENDDATA.
+/// The name of a data brick, there, and its declarations up to ENDDATA.
 fn storing<D: Declares>(of: D, from: Spot<'_>, nodes: &mut [Node]) -> Result<Parsed, Fault>
     requires within { from.next ≤ length from.symbols.now }
     requires room { Room 0 from nodes.old }
@@ -107,12 +107,12 @@ fn storing<D: Declares>(of: D, from: Spot<'_>, nodes: &mut [Node]) -> Result<Par
     })
 }
 
-/// A data brick, DATA being at i.
+/// A data brick, DATA being there.
 fn data_brick(from: Spot<'_>, nodes: &mut [Node]) -> Result<Parsed, Fault>
     requires opening { slice_index_or from.symbols.now from.next STOP ≡ DATA }
     requires there { from.next < length from.symbols.now }
     requires room { Room 0 from nodes.old }
-    ensures { MatchResult result (λ p. Made 0 Brick IsBrick of_brick (Way (a_brick ∷ []) from.entry.depth from.entry.symbols.now from.entry.next) from.entry.symbols.now from.entry.next from.entry.used nodes.old nodes.new p × (p.used + 2 * from.entry.next < 2 * p.next + from.entry.used)) (λ f. Refused (a_brick ∷ []) from.entry.depth from.entry.symbols.now from.entry.next f) }
+    ensures { ReadsFewer 0 Brick IsBrick of_brick (Way (a_brick ∷ [])) (Refused (a_brick ∷ [])) from.entry nodes.old nodes.new result }
 {
     let d = storing(
         Stored,
@@ -130,7 +130,7 @@ fn data_brick(from: Spot<'_>, nodes: &mut [Node]) -> Result<Parsed, Fault>
     })
 }
 
-/// A procedure up to its body, PROC being at i.
+/// A procedure up to its body, PROC being there.
 fn heading(from: Spot<'_>, nodes: &mut [Node]) -> Result<Parsed, Fault>
     requires opening { slice_index_or from.symbols.now from.next STOP ≡ PROC }
     requires there { from.next < length from.symbols.now }
@@ -176,12 +176,12 @@ fn heading(from: Spot<'_>, nodes: &mut [Node]) -> Result<Parsed, Fault>
     })
 }
 
-/// A procedure, PROC being at i.
+/// A procedure, PROC being there.
 fn procedure(from: Spot<'_>, nodes: &mut [Node]) -> Result<Parsed, Fault>
     requires opening { slice_index_or from.symbols.now from.next STOP ≡ PROC }
     requires there { from.next < length from.symbols.now }
     requires room { Room 0 from nodes.old }
-    ensures { MatchResult result (λ p. Made 0 Brick IsBrick of_brick (Way (a_brick ∷ []) from.entry.depth from.entry.symbols.now from.entry.next) from.entry.symbols.now from.entry.next from.entry.used nodes.old nodes.new p × (p.used + 2 * from.entry.next < 2 * p.next + from.entry.used)) (λ f. Refused (a_brick ∷ []) from.entry.depth from.entry.symbols.now from.entry.next f) }
+    ensures { ReadsFewer 0 Brick IsBrick of_brick (Way (a_brick ∷ [])) (Refused (a_brick ∷ [])) from.entry nodes.old nodes.new result }
 {
     let h = heading(from, nodes)?;
     let b = body(
@@ -207,7 +207,7 @@ fn procedure(from: Spot<'_>, nodes: &mut [Node]) -> Result<Parsed, Fault>
 fn brick(from: Spot<'_>, nodes: &mut [Node]) -> Result<Parsed, Fault>
     requires within { from.next ≤ length from.symbols.now }
     requires room { Room 0 from nodes.old }
-    ensures { MatchResult result (λ p. Made 0 Brick IsBrick of_brick (Way (a_brick ∷ []) from.entry.depth from.entry.symbols.now from.entry.next) from.entry.symbols.now from.entry.next from.entry.used nodes.old nodes.new p × (p.used + 2 * from.entry.next < 2 * p.next + from.entry.used)) (λ f. Refused (a_brick ∷ []) from.entry.depth from.entry.symbols.now from.entry.next f) }
+    ensures { ReadsFewer 0 Brick IsBrick of_brick (Way (a_brick ∷ [])) (Refused (a_brick ∷ [])) from.entry nodes.old nodes.new result }
 {
     match from.peek(from.next) {
         Symbol::Data => data_brick(from, nodes),
@@ -216,7 +216,7 @@ fn brick(from: Spot<'_>, nodes: &mut [Node]) -> Result<Parsed, Fault>
     }
 }
 
-/// Described procedures, EXT being at i and PROC behind it.
+/// Described procedures, EXT being there and PROC behind it.
 fn external_procs(from: Spot<'_>, nodes: &mut [Node]) -> Result<Parsed, Fault>
     requires opening { slice_index_or from.symbols.now from.next STOP ≡ EXT }
     requires second { slice_index_or from.symbols.now (from.next + 1) STOP ≡ PROC }
@@ -266,7 +266,7 @@ fn external_procs(from: Spot<'_>, nodes: &mut [Node]) -> Result<Parsed, Fault>
     })
 }
 
-/// A described data brick, EXT being at i and DATA behind it.
+/// A described data brick, EXT being there and DATA behind it.
 fn external_store(from: Spot<'_>, nodes: &mut [Node]) -> Result<Parsed, Fault>
     requires opening { slice_index_or from.symbols.now from.next STOP ≡ EXT }
     requires second { slice_index_or from.symbols.now (from.next + 1) STOP ≡ DATA }
@@ -290,7 +290,7 @@ fn external_store(from: Spot<'_>, nodes: &mut [Node]) -> Result<Parsed, Fault>
     })
 }
 
-/// What is described as external, EXT being at i.
+/// What is described as external, EXT being there.
 fn external(from: Spot<'_>, nodes: &mut [Node]) -> Result<Parsed, Fault>
     requires opening { slice_index_or from.symbols.now from.next STOP ≡ EXT }
     requires there { from.next < length from.symbols.now }
@@ -304,7 +304,7 @@ fn external(from: Spot<'_>, nodes: &mut [Node]) -> Result<Parsed, Fault>
     }
 }
 
-/// A record mode, MODE being at i.
+/// A record mode, MODE being there.
 fn record_mode(from: Spot<'_>, nodes: &mut [Node]) -> Result<Parsed, Fault>
     requires opening { slice_index_or from.symbols.now from.next STOP ≡ MODE }
     requires there { from.next < length from.symbols.now }
@@ -339,7 +339,7 @@ fn record_mode(from: Spot<'_>, nodes: &mut [Node]) -> Result<Parsed, Fault>
     })
 }
 
-/// A brick that can be called from outside, ENT being at i.
+/// A brick that can be called from outside, ENT being there.
 fn entered(from: Spot<'_>, nodes: &mut [Node]) -> Result<Parsed, Fault>
     requires opening { slice_index_or from.symbols.now from.next STOP ≡ ENT }
     requires there { from.next < length from.symbols.now }
@@ -361,7 +361,7 @@ fn entered(from: Spot<'_>, nodes: &mut [Node]) -> Result<Parsed, Fault>
     })
 }
 
-/// A brick of the module, which begins at i.
+/// A brick of the module, which begins there.
 fn own(from: Spot<'_>, nodes: &mut [Node]) -> Result<Parsed, Fault>
     requires first { among brick_firsts (slice_index_or from.symbols.now from.next STOP) ≡ true }
     requires there { from.next < length from.symbols.now }
@@ -387,8 +387,7 @@ fn moditem(from: Spot<'_>, nodes: &mut [Node]) -> Result<Parsed, Fault>
         Symbol::Ext => external(from, nodes),
         Symbol::Mode => record_mode(from, nodes),
         Symbol::Ent => entered(from, nodes),
-        Symbol::Data => own(from, nodes),
-        Symbol::Proc => own(from, nodes),
+        Symbol::Data | Symbol::Proc => own(from, nodes),
         _ => {
             nodes[from.used] = Node::Blank;
             Ok(Parsed {

@@ -95,7 +95,7 @@ pub struct Parsed {
 }
 
 /// Why nothing was read: the number of the first item that can follow in no module, or of the first that nests too deep.
-#[derive(Clone, Copy)]
+#[derive(Clone, Copy, PartialEq, Eq, Debug)]
 pub enum Fault {
     Syntax(usize),
     Deep(usize),

@@ -14,7 +14,7 @@ use symbols::Base;
 pub const MAX_INTEGER: u32 = 32_767;
 
 /// What a digit of any base stands for.
-// No `to_digit`: the class of the digits is known here, so its option would never be empty.
+// No `to_digit`: `integer_value` is promised of every byte, also of one that is no digit.
 fn digit_value(b: u8) -> u8
     ensures { result ≡ digit_value b }
 {
@@ -40,6 +40,7 @@ fn radix(word: &[u8]) -> u32
 }
 
 /// The number that the digits write in the base, unless it is too large.
+// No `from_str_radix`: it takes small letters and a sign, and refuses bytes of which something is promised here.
 fn number(digits: &[u8], base: u32) -> Option<u16>
     requires { (2 ≤ base) × (base ≤ 16) }
     ensures { Small (written base digits.now) result }

@@ -1,6 +1,6 @@
 //! Reading assignments and calls of procedures into nodes.
 ghost use Rattle.std.specs.Prelude.{◌≡◌, ◌+◌, ◌*◌, ◌<◌, ◌≤◌, [], ◌∷◌, length, MatchResult, slice_index_or};
-ghost use Rattle.nodes.specs.Made.{Made, Way, Refused, by_val, VariableWay, VariableRefused, Room, ReadsTo};
+ghost use Rattle.nodes.specs.Made.{Made, Way, Refused, by_val, VariableWay, VariableRefused, Room, ReadsTo, Reads, ReadsFewer};
 ghost use Rattle.nodes.specs.Nodes.{IsMany, IsPrimary, IsVariable, IsDestination, IsStatement, blank_node};
 ghost use Rattle.grammar.specs.Symbols.{Says, STOP, NAME, BECOMES, VAL};
 ghost use Rattle.grammar.specs.Trees.{Many, Primary, Variable, Destination, Statement, of_variable, of_statement};
@@ -47,10 +47,7 @@ fn shape_of(nodes: &[Node], k: usize) -> Shape
 fn destined(from: Spot<'_>, j: usize, shape: Shape) -> bool
     ensures { Says result (IsPlace shape × (slice_index_or from.entry.symbols.now j STOP ≡ BECOMES)) }
 {
-    match shape {
-        Shape::Place | Shape::Indexed(_, _, _) => from.peek(j) == Symbol::Becomes,
-        _ => false,
-    }
+    matches!(shape, Shape::Place | Shape::Indexed(..)) && from.peek(j) == Symbol::Becomes
 }
 
 /// The node of the statement that a form of this shape is, if it is a call.
@@ -65,12 +62,12 @@ fn invocation(shape: Shape) -> Option<Node>
     }
 }
 
-/// A variable whose name is at i, VAL being in front of it.
+/// A variable whose name is there, VAL being in front of it.
 fn val_variable(from: Spot<'_>, nodes: &mut [Node]) -> Result<Parsed, Fault>
     requires named { slice_index_or from.symbols.now from.next STOP ≡ NAME }
     requires there { from.next < length from.symbols.now }
     requires room { Room 0 from nodes.old }
-    ensures { MatchResult result (λ p. Made 0 Variable IsVariable of_variable (VariableWay by_val from.entry.depth from.entry.symbols.now from.entry.next) from.entry.symbols.now from.entry.next from.entry.used nodes.old nodes.new p) (λ f. VariableRefused by_val from.entry.depth from.entry.symbols.now from.entry.next f) }
+    ensures { Reads 0 Variable IsVariable of_variable (VariableWay by_val) (VariableRefused by_val) from.entry nodes.old nodes.new result }
 {
     nodes[from.used] = Node::Name(from.next);
     let name = Parsed {
@@ -81,12 +78,12 @@ fn val_variable(from: Spot<'_>, nodes: &mut [Node]) -> Result<Parsed, Fault>
     variable(from, nodes, name)
 }
 
-/// A destination that begins with VAL at i, with the ':=' behind it.
+/// A destination that begins with VAL there, with the ':=' behind it.
 fn val_target(from: Spot<'_>, nodes: &mut [Node]) -> Result<Parsed, Fault>
     requires valued { slice_index_or from.symbols.now from.next STOP ≡ VAL }
     requires there { from.next < length from.symbols.now }
     requires room { Room 0 from nodes.old }
-    ensures { MatchResult result (λ p. Made 0 Destination IsDestination of_target (ValWay from.entry.depth from.entry.symbols.now from.entry.next) from.entry.symbols.now from.entry.next from.entry.used nodes.old nodes.new p × (p.used + 2 * from.entry.next < 2 * p.next + from.entry.used)) (λ f. Refused (tok NAME ∷ parts start ∷ []) from.entry.depth from.entry.symbols.now (from.entry.next + 1) f) }
+    ensures { ReadsFewer 0 Destination IsDestination of_target ValWay (λ d s i f. Refused (tok NAME ∷ parts start ∷ []) d s (i + 1) f) from.entry nodes.old nodes.new result }
 {
     if from.peek(from.next + 1) != Symbol::Name {
         return Err(Fault::Syntax(from.next + 1));
@@ -109,13 +106,13 @@ fn val_target(from: Spot<'_>, nodes: &mut [Node]) -> Result<Parsed, Fault>
     })
 }
 
-/// Behind a ':=', at i: one more destination with the ':=' behind it, or nothing where an expression is.
+/// Behind a ':=', there: one more destination with the ':=' behind it, or nothing where an expression is.
 fn destination(from: Spot<'_>, nodes: &mut [Node]) -> Result<Option<Parsed>, Fault>
     requires room { Room 0 from nodes.old }
     ensures { MatchResult result (λ o. Onward from.entry.depth from.entry.symbols.now from.entry.next from.entry.used nodes.old nodes.new o) (λ f. Refused (a_source ∷ []) from.entry.depth from.entry.symbols.now from.entry.next f) }
 {
     match from.peek(from.next) {
-        Symbol::Val => Ok(Some(val_target(from, nodes)?)),
+        Symbol::Val => val_target(from, nodes).map(Some),
         Symbol::Name => {
             let f = form(from, nodes)?;
             if !destined(from, f.next, shape_of(nodes, f.root)) {
@@ -131,7 +128,7 @@ fn destination(from: Spot<'_>, nodes: &mut [Node]) -> Result<Option<Parsed>, Fau
     }
 }
 
-/// The rest of an assignment that begins at i, its first destination having been read, with the ':=' behind it, up to `first`.
+/// The rest of an assignment that begins there, its first destination having been read, with the ':=' behind it, up to `first`.
 fn assignment(from: Spot<'_>, nodes: &mut [Node], first: Parsed) -> Result<Parsed, Fault>
     requires room { Room 0 from nodes.old }
     requires begun { Made 0 (Many Destination) (IsMany IsDestination) of_targets (TargetsWay from.depth from.symbols.now from.next) from.symbols.now from.next from.used nodes.old nodes.old first }
@@ -170,7 +167,7 @@ fn assignment(from: Spot<'_>, nodes: &mut [Node], first: Parsed) -> Result<Parse
     })
 }
 
-/// A statement that begins with VAL at i.
+/// A statement that begins with VAL there.
 pub fn valued(from: Spot<'_>, nodes: &mut [Node]) -> Result<Parsed, Fault>
     requires valued { slice_index_or from.symbols.now from.next STOP ≡ VAL }
     requires there { from.next < length from.symbols.now }
@@ -181,7 +178,7 @@ pub fn valued(from: Spot<'_>, nodes: &mut [Node]) -> Result<Parsed, Fault>
     assignment(from, nodes, first)
 }
 
-/// A statement that begins with a name at i.
+/// A statement that begins with a name there.
 pub fn named(from: Spot<'_>, nodes: &mut [Node]) -> Result<Parsed, Fault>
     requires named { slice_index_or from.symbols.now from.next STOP ≡ NAME }
     requires there { from.next < length from.symbols.now }
@@ -198,10 +195,7 @@ pub fn named(from: Spot<'_>, nodes: &mut [Node]) -> Result<Parsed, Fault>
         };
         return assignment(from, nodes, first);
     }
-    let Some(node) = invocation(shape) else {
-        return Err(Fault::Syntax(f.next));
-    };
-    nodes[f.used] = node;
+    nodes[f.used] = invocation(shape).ok_or(Fault::Syntax(f.next))?;
     Ok(Parsed {
         next: f.next,
         used: f.used + 1,

@@ -91,7 +91,7 @@ fn statement(from: Spot<'_>, nodes: &mut [Node]) -> Result<Parsed, Fault>
     }
 }
 
-/// A block, BLOCK being at i.
+/// A block, BLOCK being there.
 #[cycle(statements)]
 fn block(from: Spot<'_>, nodes: &mut [Node]) -> Result<Parsed, Fault>
     requires opening { slice_index_or from.symbols.now from.next STOP ≡ BLOCK }
@@ -121,7 +121,7 @@ fn block(from: Spot<'_>, nodes: &mut [Node]) -> Result<Parsed, Fault>
     })
 }
 
-/// A condition at i, THEN, and the statements that are obeyed where it holds.
+/// A condition there, THEN, and the statements that are obeyed where it holds.
 #[cycle(statements)]
 fn arm(from: Spot<'_>, nodes: &mut [Node]) -> Result<Parsed, Fault>
     requires within { from.next ≤ length from.symbols.now }
@@ -148,7 +148,7 @@ fn arm(from: Spot<'_>, nodes: &mut [Node]) -> Result<Parsed, Fault>
     })
 }
 
-/// IF, being at i, and what follows it up to ELSE or END, ELSEIF included.
+/// IF, being there, and what follows it up to ELSE or END, ELSEIF included.
 #[cycle(statements)]
 fn arms(from: Spot<'_>, nodes: &mut [Node]) -> Result<Parsed, Fault>
     requires opening { slice_index_or from.symbols.now from.next STOP ≡ IF }
@@ -216,7 +216,7 @@ fn otherwise(from: Spot<'_>, nodes: &mut [Node], at: Parsed) -> Result<Parsed, F
     })
 }
 
-/// A branch, IF being at i.
+/// A branch, IF being there.
 #[cycle(statements)]
 fn branch(from: Spot<'_>, nodes: &mut [Node]) -> Result<Parsed, Fault>
     requires opening { slice_index_or from.symbols.now from.next STOP ≡ IF }
@@ -242,7 +242,7 @@ fn branch(from: Spot<'_>, nodes: &mut [Node]) -> Result<Parsed, Fault>
     }
 }
 
-/// A loop that counts, TO being at i.
+/// A loop that counts, TO being there.
 #[cycle(statements)]
 fn repeat(from: Spot<'_>, nodes: &mut [Node]) -> Result<Parsed, Fault>
     requires opening { slice_index_or from.symbols.now from.next STOP ≡ TO }
@@ -283,7 +283,7 @@ fn repeat(from: Spot<'_>, nodes: &mut [Node]) -> Result<Parsed, Fault>
     })
 }
 
-/// A loop that goes on while a condition holds, WHILE being at i.
+/// A loop that goes on while a condition holds, WHILE being there.
 #[cycle(statements)]
 fn while_loop(from: Spot<'_>, nodes: &mut [Node]) -> Result<Parsed, Fault>
     requires opening { slice_index_or from.symbols.now from.next STOP ≡ WHILE }
@@ -324,7 +324,7 @@ fn while_loop(from: Spot<'_>, nodes: &mut [Node]) -> Result<Parsed, Fault>
     })
 }
 
-/// RETURN, being at i, with an expression in brackets or without.
+/// RETURN, being there, with an expression in brackets or without.
 fn returning(from: Spot<'_>, nodes: &mut [Node]) -> Result<Parsed, Fault>
     requires opening { slice_index_or from.symbols.now from.next STOP ≡ RETURN }
     requires there { from.next < length from.symbols.now }

@@ -60,7 +60,7 @@ pub fn parse(items: &ItemTable, end: Place, tree: &mut NodeTable) -> Result<usiz
     ensures { Parses (items_of items.now) end tree.new.nodes result }
 {
     let items = items.items();
-    // Of a fixed size: the library has no heap. As many as there are items are used.
+    // An array with a length beside it: `classify` fills a slice that is lent, and no `ArrayVec` can be lent with room behind its items.
     let mut terminals = [Symbol::Stop; MAX_ITEMS];
     let length = classify(items, &mut terminals);
     read_module(&terminals[..length], &mut tree.nodes).map_err(|fault| decline(fault, items, end))
@@ -71,6 +71,7 @@ pub fn read(text: &[u8], items: &mut ItemTable, tree: &mut NodeTable) -> Result<
     ensures { Reads text.now (items_of items.new) tree.new.nodes result }
 {
     cut(text, items)?;
+    // `as`: a text that was cut has at most 32,768 bytes, so an error of `try_from` would never come.
     let end = Place {
         offset: text.len() as u16,
     };

@@ -77,6 +77,7 @@ fn mark_terminal(separator: Separator) -> Terminal
 }
 
 /// What a symbol counts as in the grammar.
+// No `From`: both types are of other crates.
 pub fn terminal(symbol: Symbol) -> Terminal
     ensures { result ≡ sign symbol }
 {
