@@ -4,3 +4,4 @@ pub mod Places
 pub mod Sources
 pub mod Calls
 pub mod Blocks
+pub mod Results

@@ -3,6 +3,7 @@ use Rattle.std.proofs.lemmas.Result.{err_from_is_err_and}
 use Rattle.nodes.proofs.Build.{rebased}
 use Rattle.statements.proofs.Places.{form_is, named_refused, place_first}
 use Rattle.statements.proofs.Calls.{named_off, made_invoked}
+use Rattle.statements.proofs.Results.{refused_or, given_or}
 use Rattle.statements.proofs.assignments.named.Goals as goal
 
 pub returns-in_err-f : goal.returns-in_err-f
@@ -17,14 +18,16 @@ assignment-requires c =
     let o = place_first c.args.from.depth c.args.from.symbols.now c.args.from.next c.args.from.used c.requires.there c.requires.named _ _ c.in_ok-f.f m c.shape_of-shape.result y c.if-destined.ensures in
     record { room = omega (arith, c.form.auto.nodes); begun = rebased 0 _ _ _ _ _ _ _ _ _ _ (λ j l. refl) o.0; few = o.1 }
 
-pub returns-in_default : goal.returns-in_default
-returns-in_default c =
+pub returns-in_err-nodes : goal.returns-in_err-nodes
+returns-in_err-nodes c =
+    let p = err_from_is_err_and c.from_residual-in_err-nodes.result c.from_residual-in_err-nodes.ensures.1 in
     let m = c.in_ok-f.ensures in
     let y = c.shape_of-shape.ensures m.tree (form_is c.args.from.depth c.args.from.symbols.now c.args.from.next m.tree _ m.met) m.is in
-    named_off c.args.from.depth c.args.from.symbols.now c.args.from.next c.args.from.used c.requires.there c.requires.named _ _ c.in_ok-f.f m c.shape_of-shape.result y c.if-destined.ensures (sym c.invocation.ensures ∙ c.in_default.is)
+    let o = refused_or c.invocation.result _ _ (sym c.ok_or.ensures.value ∙ c.in_err-nodes.was) in
+    rw (p.1, p.2, o.1) (named_off c.args.from.depth c.args.from.symbols.now c.args.from.next c.args.from.used c.requires.there c.requires.named _ _ c.in_ok-f.f m c.shape_of-shape.result y c.if-destined.ensures (sym c.invocation.ensures ∙ o.0))
 
 pub returns : goal.returns
 returns c =
     let m = c.in_ok-f.ensures in
     let y = c.shape_of-shape.ensures m.tree (form_is c.args.from.depth c.args.from.symbols.now c.args.from.next m.tree _ m.met) m.is in
-    made_invoked c.args.from.depth c.args.from.symbols.now c.args.from.next c.args.from.used c.requires.there c.requires.named _ _ c.in_ok-f.f m (omega (arith, m.few, m.within, c.form.auto.nodes)) c.shape_of-shape.result y c.if-destined.ensures c.in-Some.node (sym c.invocation.ensures ∙ c.in-Some.is)
+    made_invoked c.args.from.depth c.args.from.symbols.now c.args.from.next c.args.from.used c.requires.there c.requires.named _ _ c.in_ok-f.f m (omega (arith, m.few, m.within, c.form.auto.nodes)) c.shape_of-shape.result y c.if-destined.ensures c.in_ok-nodes.field-0 (sym c.invocation.ensures ∙ given_or c.invocation.result _ _ (sym c.ok_or.ensures.value ∙ c.in_ok-nodes.was))
