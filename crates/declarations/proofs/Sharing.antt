@@ -7,7 +7,7 @@ use Rattle.grammar.specs.Sentences.{items}
 use Rattle.grammar.specs.Machine.{Goal, Forest, Move, refuse, each, declareds, unset, set as set_sort, Setting, stored, inblock, Initial, given_on, chain, linked, uses, value, a_value, an_expr, a_term, links_on, named, inner, at_value, at_expr, taken, onto_stack, step, done, is_some, pair, void, of_initial}
 use Rattle.grammar.proofs.Expressions.{on_not}
 use Rattle.grammar.proofs.Steps.{items_here, step_at, refuse_at, refuses, like_at, skip_at, followed_at, expr_at, mapped_on}
-use Rattle.nodes.proofs.Build.{grown, not_on, far}
+use Rattle.nodes.proofs.Build.{grown, not_on, far, inside}
 use Rattle.nodes.proofs.Keep.{keep_name, keep_many, agree_set, at_set, agree_trans}
 use Rattle.nodes.specs.Made.{at, Made, Way, Refused, Shares, of_shared, NamesWay}
 use Rattle.nodes.specs.Nodes.{Agree, IsMany, IsName, IsInit}
@@ -19,13 +19,6 @@ use Rattle.nodes.specs.declared.Node.TheVariants as node
 use Rattle.nodes.specs.declared.Parsed.{Parsed}
 use Rattle.nodes.specs.declared.Fault.{Fault}
 use Rattle.nodes.specs.declared.Fault.TheVariants.{Syntax}
-
--- a terminal that is not the mark past the end is inside
-pub inside : (s : List Symbol) (j : ℕ) (c : Symbol) → eqb (code c) 0 ≡ false → get_or s j STOP ≡ c → j < length s
-inside [] zero c h e = absurd (far c STOP h e refl)
-inside [] (suc j) c h e = absurd (far c STOP h e refl)
-inside (x ∷ s) zero c h e = omega arith
-inside (x ∷ s) (suc j) c h e = let i = inside s j c h e in omega (arith, i)
 
 abbrev pub NamesMade : List Symbol → ℕ → ℕ → List Node → List Node → Parsed → Type 0
 NamesMade s i used ns ms p = Made 0 (Many ℕ) (IsMany IsName) of_shared (NamesWay s i) s i used ns ms p

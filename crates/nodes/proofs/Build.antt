@@ -1,5 +1,5 @@
 -- What the functions of a parser answer, step by step. Assumes nothing.
-use Rattle.std.proofs.Common.{◌≡◌, ℕ, zero, suc, ◌+◌, ◌-◌, ◌*◌, ◌<◌, ◌≤◌, false, eqb, List, ◌∷◌, length, get_or, drop, set, sym, refl, ap, ◌∙◌, arith}
+use Rattle.std.proofs.Common.{[], ◌≡◌, ℕ, zero, suc, ◌+◌, ◌-◌, ◌*◌, ◌<◌, ◌≤◌, false, eqb, List, ◌∷◌, length, get_or, drop, set, sym, refl, ap, ◌∙◌, arith}
 use borrow.Author.Tests.{eqb-false}
 use Rattle.grammar.specs.Symbols.{code, not_same, STOP}
 use Rattle.grammar.specs.declared.Symbol.{Symbol}
@@ -17,6 +17,13 @@ use Rattle.nodes.specs.declared.Parsed.{Parsed}
 -- a terminal that is k is not the mark past the end
 pub far : (k r : Symbol) → eqb (code k) 0 ≡ false → r ≡ k → r ≡ STOP → ⊥
 far k r h e f = eqb-false (code k) 0 h (ap code (sym e ∙ f))
+
+-- a terminal that is not the mark past the end is inside
+pub inside : (s : List Symbol) (j : ℕ) (c : Symbol) → eqb (code c) 0 ≡ false → get_or s j STOP ≡ c → j < length s
+inside [] zero c h e = absurd (far c STOP h e refl)
+inside [] (suc j) c h e = absurd (far c STOP h e refl)
+inside (x ∷ s) zero c h e = omega arith
+inside (x ∷ s) (suc j) c h e = let i = inside s j c h e in omega (arith, i)
 
 pub not_on : {T : Type 0} (c k : Symbol) (push : List Goal → List Goal) (build : ℕ → (α : List Goal) → Forest (push α) → T × Forest α) (m : Move T) → (c ≡ k → ⊥) → on c k push build m ≡ m
 not_on c k push build m h = on_not c k push build m (not_same c k h)

@@ -3,7 +3,8 @@
 
 pub mod lists;
 
-ghost use Rattle.std.specs.Prelude.{◌≡◌, ◌<◌, length, ◌≢◌, slice_index_or};
+ghost use Rattle.nodes.specs.declared.Fault.TheVariants.{Syntax, Deep};
+ghost use Rattle.std.specs.Prelude.{MatchResult, ◌-◌, ◌≡◌, ◌<◌, length, ◌≢◌, slice_index_or};
 ghost use Rattle.grammar.specs.Symbols.{STOP};
 
 use grammar::Symbol;
@@ -122,5 +123,22 @@ impl<'s> Spot<'s> {
         ensures there { (result ≢ STOP) → i < length self.entry.symbols.now }
     {
         self.symbols.get(i).copied().unwrap_or(Symbol::Stop)
+    }
+
+    /// Whether the terminal with the number i is the one that must come; the fault where it isn't.
+    pub fn expect(self, i: usize, wanted: Symbol) -> Result<(), Fault>
+        ensures { MatchResult result (λ _. slice_index_or self.entry.symbols.now i STOP ≡ wanted) (λ f. (f ≡ Syntax i) × (slice_index_or self.entry.symbols.now i STOP ≢ wanted)) }
+    {
+        if self.peek(i) != wanted {
+            return Err(Fault::Syntax(i));
+        }
+        Ok(())
+    }
+
+    /// How many may still open behind the terminal with the number i, which opens; the fault where none may.
+    pub fn deeper(self, i: usize) -> Result<usize, Fault>
+        ensures { MatchResult result (λ d. (d ≡ self.entry.depth - 1) × (0 < self.entry.depth)) (λ f. (f ≡ Deep i) × (self.entry.depth ≡ 0)) }
+    {
+        self.depth.checked_sub(1).ok_or(Fault::Deep(i))
     }
 }

@@ -13,7 +13,7 @@ use Rattle.nodes.specs.declared.Node.{Node}
 use Rattle.nodes.specs.declared.Parsed.{Parsed}
 use Rattle.nodes.specs.declared.Fault.{Fault}
 use Rattle.expressions.proofs.Forms.{VariableEnded, FormMade, made_form}
-use Rattle.declarations.proofs.Sharing.{inside}
+use Rattle.nodes.proofs.Build.{inside}
 use Rattle.statements.specs.Assigning.{Form, NotIndexed, Shows, IsPlace, TargetWay, TargetsWay}
 use Rattle.statements.specs.declared.assignments.Shape.{Shape}
 use Rattle.statements.specs.declared.assignments.Shape.TheVariants.{Place, Indexed, Called, CalledOn}
