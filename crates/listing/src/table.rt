@@ -3,7 +3,7 @@
 ghost use Rattle.std.specs.Prelude.{◌≡◌, ◌++◌, IfOk};
 ghost use Rattle.listing.specs.Escapes.{escaped_byte, unescaped, line_text};
 
-use anyhow::anyhow;
+use anyhow::Context;
 use std::alloc::{AllocError, Global};
 
 /// The byte that stands for an escape.
@@ -40,9 +40,7 @@ fn add(bytes: &mut Vec<u8>, text: &[u8]) -> Result<(), AllocError>
 pub fn expand(heap: Global, line: &str) -> anyhow::Result<Vec<u8>>
     ensures { IfOk result (λ bytes. bytes.items ≡ line_text line.now) }
 {
-    let Some((count, text)) = line.split_once(' ') else {
-        return Err(anyhow!("no count"));
-    };
+    let (count, text) = line.split_once(' ').context("no count")?;
     let mut bytes = Vec::new(heap);
     for _ in 0..count.parse::<u32>()? {
         add(&mut bytes, text.as_bytes())?;
