@@ -33,22 +33,6 @@ applied-calls-requires t c =
     let E = rw d.0 at c.in_ok-e.ensures in
     (omega (arith, c.decreases), (omega arith, (c.requires.named, (c.requires.opening, (c.requires.within, (omega (arith, k, l), first_argument c.args.from.depth c.args.from.symbols.now c.args.from.next c.args.from.used c.args.nodes.now (omega arith) c.requires.named c.requires.within c.requires.opening d.1 (λ e. (said _ _ _ c.if-eq.ensures) (c.peek.ensures.is ∙ e)) _ _ c.in_ok-e.e E (sym c.in-Comma.ensures.is)))))))
 
-pub applied-variable-requires : goal.applied-variable-requires
-applied-variable-requires t c =
-    let d = c.in_ok-depth.ensures in
-    let k = c.expr.auto.nodes in
-    let l = length-set c.args.nodes.now c.args.from.used (Name c.args.from.next) in
-    let E = rw d.0 at c.in_ok-e.ensures in
-    let n = c.in-Right.ensures in
-    let h = n.there (far RIGHT _ refl refl) in
-    (omega (arith, c.decreases), (simp length-set (omega (arith, k, l)), counts by_name _ _ _ _ _ _ _ (made_element c.args.from.depth c.args.from.symbols.now c.args.from.next c.args.from.used c.args.nodes.now (omega arith) c.requires.named c.requires.within c.requires.opening d.1 (λ e. (said _ _ _ c.if-eq.ensures) (c.peek.ensures.is ∙ e)) _ _ c.in_ok-e.e E (at_set c.args.from.used c.args.nodes.now _ (omega arith)) h (sym n.is) (omega (arith, k, l, E.few, h)))))
-
-pub applied-returns-in-Comma : goal.applied-returns-in-Comma
-applied-returns-in-Comma t c =
-    let E = rw c.in_ok-depth.ensures.0 at c.in_ok-e.ensures in
-    let b : Agree c.args.from.used c.args.nodes.now c.expr.new.nodes = agree_trans c.args.from.used c.args.from.used _ (set c.args.nodes.now c.args.from.used (Name c.args.from.next)) _ (omega arith) (agree_set c.args.from.used c.args.from.used c.args.nodes.now _ (omega arith)) (λ j l. E.kept j (omega arith)) in
-    otherwise c.calls.result (λ p m. rebased 0 _ _ _ _ _ _ _ _ _ p (agree_trans c.args.from.used c.args.from.used _ c.expr.new.nodes _ (omega arith) b m.kept) m) (λ f r. r) c.calls.ensures
-
 pub applied-returns-in-Right : goal.applied-returns-in-Right
 applied-returns-in-Right t c =
     let d = c.in_ok-depth.ensures in
