@@ -8,8 +8,8 @@ use Rattle.nodes.specs.Made.{by_name, rank as rank_of}
 use Rattle.nodes.proofs.Keep.{agree_set, at_set, agree_trans}
 use Rattle.nodes.proofs.Results.{otherwise}
 use Rattle.nodes.proofs.Build.{far, inside, rebased}
-use Rattle.expressions.proofs.Forms.{brackets_refused, brackets_unclosed, made_brackets, primary_none, made_integer, made_text, paren_refused, made_paren, form_refused, made_form, variable_ends, counts, form_of, left_refused, left_goes, dot_refused, dot_goes, made_name, made_call, argument_refused, argument_unclosed, first_argument, made_element, more_refused, more_goes, more_unclosed, made_calls}
-use Rattle.expressions.proofs.Levels.{monads_there, monads_end, term_refused, term_plain, term_monad, term_ends, no_stop, level_zero, level_up, level_refused, level_goes, level_ends, expr_made, expr_refused}
+use Rattle.expressions.proofs.Forms.{brackets_refused, brackets_unclosed, made_brackets, made_integer, made_text, paren_refused, made_paren, form_refused, made_form, form_of, left_refused, left_goes, dot_refused, dot_goes, made_name, made_call, argument_refused, argument_unclosed, first_argument, made_element, more_refused, more_goes, more_unclosed, made_calls}
+use Rattle.expressions.proofs.Levels.{monads_there, monads_end, term_refused, term_plain, term_monad, no_stop, level_zero, level_up, level_refused, level_goes, level_ends, expr_made, expr_refused}
 use Rattle.grammar.proofs.Tests.{said}
 use Rattle.expressions.proofs.+expressions.Goals as goal
 
@@ -93,9 +93,6 @@ calls-returns t c =
 pub expr-returns : goal.expr-returns
 expr-returns t c = otherwise c.level.result (λ p m. expr_made c.args.from.depth c.args.from.symbols.now c.args.from.next c.args.from.used _ _ p m) (λ f r. expr_refused c.args.from.depth c.args.from.symbols.now c.args.from.next c.args.from.used f r) c.level.ensures
 
-pub form-variable-requires : goal.form-variable-requires
-form-variable-requires t c = (omega (arith, c.decreases), (simp length-set (omega arith), counts by_name _ _ _ _ _ _ _ (made_name c.args.from.depth c.args.from.symbols.now c.args.from.next c.args.from.used c.args.nodes.now c.requires.within c.requires.named (λ e. (said _ _ _ c.if-eq.ensures) (c.peek.ensures.is ∙ e)) (omega arith))))
-
 pub form-returns : goal.form-returns
 form-returns t c =
     otherwise c.variable.result (λ p m. rebased 0 _ _ _ _ _ _ _ _ _ p (agree_trans c.args.from.used c.args.from.used _ _ _ (omega arith) (agree_set c.args.from.used c.args.from.used c.args.nodes.now _ (omega arith)) m.kept) (form_of _ _ _ _ _ _ p m)) (λ f r. r)
@@ -150,11 +147,6 @@ primary-returns-in_ok-e-in-Left t c =
     let h : c.args.from.next < length c.args.from.symbols.now = n.there (far LEFT _ refl refl) in
     made_paren c.args.from.depth c.args.from.symbols.now c.args.from.next c.args.from.used _ h (sym n.is) _ c.in_ok-e-in-Left.e (omega (arith, m)) m.0 m.1
 
-pub primary-returns-in_default : goal.primary-returns-in_default
-primary-returns-in_default t c =
-    let is = c.peek.ensures.is in
-    primary_none c.args.from.depth c.args.from.symbols.now c.args.from.next c.requires.within (λ e. c.in_default.not-Integer (is ∙ e)) (λ e. c.in_default.not-Text (is ∙ e)) (λ e. c.in_default.not-Name (is ∙ e)) (λ e. c.in_default.not-Left (is ∙ e))
-
 pub term-returns-in_err-at : goal.term-returns-in_err-at
 term-returns-in_err-at t c =
     let p = err_from_is_err_and c.from_residual.result c.from_residual.ensures.1 in
@@ -169,12 +161,6 @@ term-loop-k-preserved t c =
     let m = monads_there c.args.from.depth c.args.from.symbols.now c.args.from.next c.monads.result c.requires.within c.monads.ensures.is in
     let v = c.loop-k.invariant in
     (omega arith, term_monad c.args.from.depth c.args.from.symbols.now c.args.from.next c.loop-k.k c.args.from.used _ _ c.loop-k.at _ (omega arith) (omega arith) (m.each (c.loop-k.k - 1) (omega arith) (omega arith)) c.peek.ensures.is (omega arith) v.1)
-
-pub term-returns : goal.term-returns
-term-returns t c = term_ends c.args.from.depth c.args.from.symbols.now c.args.from.next c.loop-k.k c.args.from.used _ _ _ c.loop-k.at (omega (arith, c.loop-k.invariant.0)) c.in_ok-at.ensures.kept c.loop-k.invariant.1
-
-pub variable-loop-bracket-init : goal.variable-loop-bracket-init
-variable-loop-bracket-init t c = (c.requires.counted, λ b m. m)
 
 pub variable-returns-in_err-e-in-Left : goal.variable-returns-in_err-e-in-Left
 variable-returns-in_err-e-in-Left t c b m =
@@ -206,13 +192,3 @@ variable-loop-bracket-preserved t c =
       record { within = omega (arith, h); more = omega (arith, v.more); few = omega (arith, v.few); below = omega arith },
       λ b x. dot_goes b c.args.from.depth c.args.from.symbols.now c.args.from.next c.args.from.used _ _ c.loop-bracket.at (c.loop-bracket.invariant.1 b x) (n.there (far DOT _ refl refl)) (sym n.is) h q (omega (arith, h, v)),
     )
-
-pub variable-returns-in_default : goal.variable-returns-in_default
-variable-returns-in_default t c b m =
-    let is = c.peek.ensures.is in
-    variable_ends b c.args.from.depth c.args.from.symbols.now c.args.from.next c.args.from.used _ _ c.loop-bracket.at (c.loop-bracket.invariant.1 b m) (λ e. c.in_default.not-Left (is ∙ e)) (λ e. c.in_default.not-Dot (is ∙ e))
-
-pub level-level-requires-in-loop-operand : goal.level-level-requires-in-loop-operand
-level-level-requires-in-loop-operand t c =
-    let h = c.peek.ensures.there (no_stop _ (c.args.n - 1) (sym c.rank.ensures ∙ c.loop-operand-test.true) (omega arith)) in
-    (omega (arith, c.decreases), (omega arith, (omega (arith, h), omega (arith, h, c.loop-operand.invariant.few))))
