@@ -55,26 +55,18 @@ pub fn bracketed(from: Spot<'_>, nodes: &mut [Node]) -> Result<Parsed, Fault>
     requires room { Room 0 from nodes.old }
     ensures { ReadsFewer 0 (Expr 5) IsExpr (λ e rest. token LEFT from.entry.next ∷ of_expr e (key RIGHT ∷ rest)) (Way (tok LEFT ∷ an_expr ∷ tok RIGHT ∷ [])) (Refused (tok LEFT ∷ an_expr ∷ tok RIGHT ∷ [])) from.entry nodes.old nodes.new result }
 {
-    if from.depth == 0 {
-        return Err(Fault::Deep(from.next));
-    }
-    let e = expr(
-        Spot {
-            next: from.next + 1,
-            depth: from.depth - 1,
-            ..from
-        },
-        nodes,
-    )?;
-    if from.peek(e.next) == Symbol::Right {
-        Ok(Parsed {
-            next: e.next + 1,
-            used: e.used,
-            root: e.root,
-        })
-    } else {
-        Err(Fault::Syntax(e.next))
-    }
+    let depth = from.deeper(from.next)?;
+    let inside = Spot {
+        next: from.next + 1,
+        depth,
+        ..from
+    };
+    let e = expr(inside, nodes)?;
+    from.expect(e.next, Symbol::Right)?;
+    Ok(Parsed {
+        next: e.next + 1,
+        ..e
+    })
 }
 
 /// The further parts of a variable whose name is there, and which was read up to `start`.
@@ -88,14 +80,12 @@ pub fn variable(from: Spot<'_>, nodes: &mut [Node], start: Parsed) -> Result<Par
     loop {
         match from.peek(at.next) {
             Symbol::Left => {
-                let e = bracketed(
-                    Spot {
-                        next: at.next,
-                        used: at.used,
-                        ..from
-                    },
-                    nodes,
-                )?;
+                let bracket = Spot {
+                    next: at.next,
+                    used: at.used,
+                    ..from
+                };
+                let e = bracketed(bracket, nodes)?;
                 nodes[e.used] = Node::Element(at.root, at.next, e.root);
                 at = Parsed {
                     next: e.next,
@@ -104,9 +94,7 @@ pub fn variable(from: Spot<'_>, nodes: &mut [Node], start: Parsed) -> Result<Par
                 };
             }
             Symbol::Dot => {
-                if from.peek(at.next + 1) != Symbol::Name {
-                    return Err(Fault::Syntax(at.next + 1));
-                }
+                from.expect(at.next + 1, Symbol::Name)?;
                 nodes[at.used] = Node::Component(at.root, at.next + 1);
                 at = Parsed {
                     next: at.next + 2,
@@ -134,15 +122,13 @@ fn calls(from: Spot<'_>, nodes: &mut [Node], at: Parsed) -> Result<Parsed, Fault
 {
     let mut at = at;
     while from.peek(at.next) == Symbol::Comma {
-        let e = expr(
-            Spot {
-                next: at.next + 1,
-                depth: from.depth - 1,
-                used: at.used,
-                ..from
-            },
-            nodes,
-        )?;
+        let further = Spot {
+            next: at.next + 1,
+            depth: from.depth - 1,
+            used: at.used,
+            ..from
+        };
+        let e = expr(further, nodes)?;
         nodes[e.used] = Node::Also(at.root, e.root);
         at = Parsed {
             next: e.next,
@@ -150,9 +136,7 @@ fn calls(from: Spot<'_>, nodes: &mut [Node], at: Parsed) -> Result<Parsed, Fault
             root: e.used,
         };
     }
-    if from.peek(at.next) != Symbol::Right {
-        return Err(Fault::Syntax(at.next));
-    }
+    from.expect(at.next, Symbol::Right)?;
     nodes[at.used] = Node::CallOn(from.next, from.next + 1, at.root);
     Ok(Parsed {
         next: at.next + 1,
@@ -170,9 +154,7 @@ fn applied(from: Spot<'_>, nodes: &mut [Node]) -> Result<Parsed, Fault>
     requires room { Room 0 from nodes.old }
     ensures { Reads 0 Primary IsPrimary of_primary FormWay FormRefused from.entry nodes.old nodes.new result }
 {
-    if from.depth == 0 {
-        return Err(Fault::Deep(from.next + 1));
-    }
+    let depth = from.deeper(from.next + 1)?;
     if from.peek(from.next + 2) == Symbol::Right {
         nodes[from.used] = Node::Call(from.next, from.next + 1);
         return Ok(Parsed {
@@ -182,15 +164,13 @@ fn applied(from: Spot<'_>, nodes: &mut [Node]) -> Result<Parsed, Fault>
         });
     }
     nodes[from.used] = Node::Name(from.next);
-    let e = expr(
-        Spot {
-            next: from.next + 2,
-            depth: from.depth - 1,
-            used: from.used + 1,
-            ..from
-        },
-        nodes,
-    )?;
+    let first = Spot {
+        next: from.next + 2,
+        depth,
+        used: from.used + 1,
+        ..from
+    };
+    let e = expr(first, nodes)?;
     match from.peek(e.next) {
         Symbol::Comma => calls(from, nodes, e),
         Symbol::Right => {
@@ -295,15 +275,12 @@ fn level(from: Spot<'_>, nodes: &mut [Node], n: usize) -> Result<Parsed, Fault>
     }
     let mut at = level(from, nodes, n - 1)?;
     while rank(from.peek(at.next)) == n - 1 {
-        let e = level(
-            Spot {
-                next: at.next + 1,
-                used: at.used,
-                ..from
-            },
-            nodes,
-            n - 1,
-        )?;
+        let operand = Spot {
+            next: at.next + 1,
+            used: at.used,
+            ..from
+        };
+        let e = level(operand, nodes, n - 1)?;
         nodes[e.used] = Node::Dyadic(from.peek(at.next), at.next, at.root, e.root);
         at = Parsed {
             next: e.next,
@@ -349,14 +326,12 @@ fn comparison(from: Spot<'_>, nodes: &mut [Node]) -> Result<Parsed, Fault>
     if !comparator(c) {
         return Err(Fault::Syntax(a.next));
     }
-    let b = expr(
-        Spot {
-            next: a.next + 1,
-            used: a.used,
-            ..from
-        },
-        nodes,
-    )?;
+    let right = Spot {
+        next: a.next + 1,
+        used: a.used,
+        ..from
+    };
+    let b = expr(right, nodes)?;
     nodes[b.used] = Node::Compare(c, a.root, b.root);
     Ok(Parsed {
         next: b.next,

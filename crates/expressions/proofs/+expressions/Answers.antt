@@ -7,50 +7,36 @@ use Rattle.nodes.specs.declared.Node.TheVariants.{Name, Element}
 use Rattle.nodes.specs.Made.{by_name, rank as rank_of}
 use Rattle.nodes.proofs.Keep.{agree_set, at_set, agree_trans}
 use Rattle.nodes.proofs.Results.{otherwise}
-use Rattle.nodes.proofs.Build.{far, rebased}
-use Rattle.expressions.proofs.Forms.{brackets_deep, brackets_refused, brackets_unclosed, made_brackets, primary_none, made_integer, made_text, paren_refused, made_paren, form_refused, made_form, variable_ends, counts, form_of, left_refused, left_goes, dot_refused, dot_goes, made_name, called_deep, made_call, argument_refused, argument_unclosed, first_argument, made_element, more_refused, more_goes, more_unclosed, made_calls}
-use Rattle.expressions.proofs.Levels.{monads_there, monads_end, term_refused, term_plain, term_monad, term_ends, no_stop, level_zero, level_up, level_refused, level_goes, level_ends, expr_made, expr_refused}
-use Rattle.grammar.proofs.Tests.{said, differs, agrees}
+use Rattle.nodes.proofs.Build.{far, inside, rebased}
+use Rattle.expressions.proofs.Forms.{brackets_refused, brackets_unclosed, made_brackets, made_integer, made_text, paren_refused, made_paren, form_refused, made_form, form_of, left_refused, left_goes, dot_refused, dot_goes, made_name, made_call, argument_refused, argument_unclosed, first_argument, made_element, more_refused, more_goes, more_unclosed, made_calls}
+use Rattle.expressions.proofs.Levels.{monads_there, monads_end, term_refused, term_plain, term_monad, no_stop, level_zero, level_up, level_refused, level_goes, level_ends, expr_made, expr_refused}
+use Rattle.grammar.proofs.Tests.{said}
 use Rattle.expressions.proofs.+expressions.Goals as goal
-
-pub applied-returns-then-from-eq0 : goal.applied-returns-then-from-eq0
-applied-returns-then-from-eq0 t c = called_deep c.args.from.depth c.args.from.symbols.now c.args.from.next c.args.from.used c.args.nodes.now (omega arith) c.requires.named c.requires.within c.requires.opening c.if-from-eq0.true
 
 pub applied-returns-then-eq : goal.applied-returns-then-eq
 applied-returns-then-eq t c =
+    let d = c.in_ok-depth.ensures in
     let e = (said _ _ _ c.if-eq.ensures) in
-    made_call c.args.from.depth c.args.from.symbols.now c.args.from.next c.args.from.used c.args.nodes.now (omega arith) c.requires.named c.requires.within c.requires.opening (omega arith) (c.peek.ensures.there (far RIGHT _ refl e)) (sym c.peek.ensures.is ∙ e) (omega arith)
+    made_call c.args.from.depth c.args.from.symbols.now c.args.from.next c.args.from.used c.args.nodes.now (omega arith) c.requires.named c.requires.within c.requires.opening d.1 (c.peek.ensures.there (far RIGHT _ refl e)) (sym c.peek.ensures.is ∙ e) (omega arith)
 
 pub applied-returns-in_err-e : goal.applied-returns-in_err-e
 applied-returns-in_err-e t c =
-    let p = err_from_is_err_and c.from_residual.result c.from_residual.ensures.1 in
-    rw (p.1, p.2) (argument_refused c.args.from.depth c.args.from.symbols.now c.args.from.next c.args.from.used c.args.nodes.now (omega arith) c.requires.named c.requires.within c.requires.opening (omega arith) (λ e. (said _ _ _ c.if-eq.ensures) (c.peek.ensures.is ∙ e)) _ c.in_err-e.ensures)
+    let d = c.in_ok-depth.ensures in
+    let p = err_from_is_err_and c.from_residual-in_err-e.result c.from_residual-in_err-e.ensures.1 in
+    rw (p.1, p.2) (argument_refused c.args.from.depth c.args.from.symbols.now c.args.from.next c.args.from.used c.args.nodes.now (omega arith) c.requires.named c.requires.within c.requires.opening d.1 (λ e. (said _ _ _ c.if-eq.ensures) (c.peek.ensures.is ∙ e)) _ (rw d.0 at c.in_err-e.ensures))
 
 pub applied-calls-requires : goal.applied-calls-requires
 applied-calls-requires t c =
+    let d = c.in_ok-depth.ensures in
     let k = c.expr.auto.nodes in
     let l = length-set c.args.nodes.now c.args.from.used (Name c.args.from.next) in
-    let E = c.in_ok-e.ensures in
-    (omega (arith, c.decreases), (omega arith, (c.requires.named, (c.requires.opening, (c.requires.within, (omega (arith, k, l), first_argument c.args.from.depth c.args.from.symbols.now c.args.from.next c.args.from.used c.args.nodes.now (omega arith) c.requires.named c.requires.within c.requires.opening (omega arith) (λ e. (said _ _ _ c.if-eq.ensures) (c.peek.ensures.is ∙ e)) _ _ c.in_ok-e.e E (sym c.in-Comma.ensures.is)))))))
-
-pub applied-variable-requires : goal.applied-variable-requires
-applied-variable-requires t c =
-    let k = c.expr.auto.nodes in
-    let l = length-set c.args.nodes.now c.args.from.used (Name c.args.from.next) in
-    let E = c.in_ok-e.ensures in
-    let n = c.in-Right.ensures in
-    let h = n.there (far RIGHT _ refl refl) in
-    (omega (arith, c.decreases), (simp length-set (omega (arith, k, l)), counts by_name _ _ _ _ _ _ _ (made_element c.args.from.depth c.args.from.symbols.now c.args.from.next c.args.from.used c.args.nodes.now (omega arith) c.requires.named c.requires.within c.requires.opening (omega arith) (λ e. (said _ _ _ c.if-eq.ensures) (c.peek.ensures.is ∙ e)) _ _ c.in_ok-e.e E (at_set c.args.from.used c.args.nodes.now _ (omega arith)) h (sym n.is) (omega (arith, k, l, E.few, h)))))
-
-pub applied-returns-in-Comma : goal.applied-returns-in-Comma
-applied-returns-in-Comma t c =
-    let E = c.in_ok-e.ensures in
-    let b : Agree c.args.from.used c.args.nodes.now c.expr.new.nodes = agree_trans c.args.from.used c.args.from.used _ (set c.args.nodes.now c.args.from.used (Name c.args.from.next)) _ (omega arith) (agree_set c.args.from.used c.args.from.used c.args.nodes.now _ (omega arith)) (λ j l. E.kept j (omega arith)) in
-    otherwise c.calls.result (λ p m. rebased 0 _ _ _ _ _ _ _ _ _ p (agree_trans c.args.from.used c.args.from.used _ c.expr.new.nodes _ (omega arith) b m.kept) m) (λ f r. r) c.calls.ensures
+    let E = rw d.0 at c.in_ok-e.ensures in
+    (omega (arith, c.decreases), (omega arith, (c.requires.named, (c.requires.opening, (c.requires.within, (omega (arith, k, l), first_argument c.args.from.depth c.args.from.symbols.now c.args.from.next c.args.from.used c.args.nodes.now (omega arith) c.requires.named c.requires.within c.requires.opening d.1 (λ e. (said _ _ _ c.if-eq.ensures) (c.peek.ensures.is ∙ e)) _ _ c.in_ok-e.e E (sym c.in-Comma.ensures.is)))))))
 
 pub applied-returns-in-Right : goal.applied-returns-in-Right
 applied-returns-in-Right t c =
-    let E = c.in_ok-e.ensures in
+    let d = c.in_ok-depth.ensures in
+    let E = rw d.0 at c.in_ok-e.ensures in
     let b : Agree c.args.from.used c.args.nodes.now c.expr.new.nodes = agree_trans c.args.from.used c.args.from.used _ (set c.args.nodes.now c.args.from.used (Name c.args.from.next)) _ (omega arith) (agree_set c.args.from.used c.args.from.used c.args.nodes.now _ (omega arith)) (λ j l. E.kept j (omega arith)) in
     let k = c.expr.auto.nodes in
     let l = length-set c.args.nodes.now c.args.from.used (Name c.args.from.next) in
@@ -58,52 +44,54 @@ applied-returns-in-Right t c =
     let h = n.there (far RIGHT _ refl refl) in
     let g : Agree c.args.from.used c.expr.new.nodes (set c.expr.new.nodes c.in_ok-e.e.used (Element c.args.from.used (c.args.from.next + 1) c.in_ok-e.e.root)) = agree_set c.args.from.used c.in_ok-e.e.used _ _ (omega (arith, E.more)) in
     otherwise c.variable.result (λ p m. rebased 0 _ _ _ _ _ _ _ _ _ p (agree_trans c.args.from.used c.args.from.used _ _ _ (omega arith) (agree_trans c.args.from.used c.args.from.used _ _ _ (omega arith) b g) m.kept) (form_of _ _ _ _ _ _ p m)) (λ f r. r)
-    (c.variable.ensures by_name (rebased 0 _ _ _ _ _ _ _ _ _ _ (λ j l. refl) (made_element c.args.from.depth c.args.from.symbols.now c.args.from.next c.args.from.used c.args.nodes.now (omega arith) c.requires.named c.requires.within c.requires.opening (omega arith) (λ e. (said _ _ _ c.if-eq.ensures) (c.peek.ensures.is ∙ e)) _ _ c.in_ok-e.e E (at_set c.args.from.used c.args.nodes.now _ (omega arith)) h (sym n.is) (omega (arith, k, l, E.few, h)))))
+    (c.variable.ensures by_name (rebased 0 _ _ _ _ _ _ _ _ _ _ (λ j l. refl) (made_element c.args.from.depth c.args.from.symbols.now c.args.from.next c.args.from.used c.args.nodes.now (omega arith) c.requires.named c.requires.within c.requires.opening d.1 (λ e. (said _ _ _ c.if-eq.ensures) (c.peek.ensures.is ∙ e)) _ _ c.in_ok-e.e E (at_set c.args.from.used c.args.nodes.now _ (omega arith)) h (sym n.is) (omega (arith, k, l, E.few, h)))))
 
 pub applied-returns-in_default : goal.applied-returns-in_default
-applied-returns-in_default t c = argument_unclosed c.args.from.depth c.args.from.symbols.now c.args.from.next c.args.from.used c.args.nodes.now (omega arith) c.requires.named c.requires.within c.requires.opening (omega arith) (λ e. (said _ _ _ c.if-eq.ensures) (c.peek.ensures.is ∙ e)) _ _ c.in_ok-e.e c.in_ok-e.ensures (λ e. c.in_default.not-Right (c.peek-2.ensures.is ∙ e)) (λ e. c.in_default.not-Comma (c.peek-2.ensures.is ∙ e))
-
-pub bracketed-returns-then-from-eq0 : goal.bracketed-returns-then-from-eq0
-bracketed-returns-then-from-eq0 t c = brackets_deep c.args.from.depth c.args.from.symbols.now c.args.from.next c.requires.within c.requires.opening c.if-from-eq0.true
+applied-returns-in_default t c =
+    let d = c.in_ok-depth.ensures in
+    argument_unclosed c.args.from.depth c.args.from.symbols.now c.args.from.next c.args.from.used c.args.nodes.now (omega arith) c.requires.named c.requires.within c.requires.opening d.1 (λ e. (said _ _ _ c.if-eq.ensures) (c.peek.ensures.is ∙ e)) _ _ c.in_ok-e.e (rw d.0 at c.in_ok-e.ensures) (λ e. c.in_default.not-Right (c.peek-2.ensures.is ∙ e)) (λ e. c.in_default.not-Comma (c.peek-2.ensures.is ∙ e))
 
 pub bracketed-returns-in_err-e : goal.bracketed-returns-in_err-e
 bracketed-returns-in_err-e t c =
-    let p = err_from_is_err_and c.from_residual.result c.from_residual.ensures.1 in
-    rw (p.1, p.2) (brackets_refused c.args.from.depth c.args.from.symbols.now c.args.from.next c.requires.within c.requires.opening (omega arith) _ c.in_err-e.ensures)
+    let p = err_from_is_err_and c.from_residual-in_err-e.result c.from_residual-in_err-e.ensures.1 in
+    let d = c.in_ok-depth.ensures in
+    rw (p.1, p.2) (brackets_refused c.args.from.depth c.args.from.symbols.now c.args.from.next c.requires.within c.requires.opening d.1 _ (rw d.0 at c.in_err-e.ensures))
 
-pub bracketed-returns-then-eq : goal.bracketed-returns-then-eq
-bracketed-returns-then-eq t c =
-    let e = (said _ _ _ c.if-eq.ensures) in
-    made_brackets c.args.from.depth c.args.from.symbols.now c.args.from.next c.requires.within c.requires.opening (omega arith) c.args.from.used _ _ c.in_ok-e.e c.in_ok-e.ensures (c.peek.ensures.there (far RIGHT _ refl e)) (sym c.peek.ensures.is ∙ e)
+pub bracketed-returns-in_err-expect : goal.bracketed-returns-in_err-expect
+bracketed-returns-in_err-expect t c =
+    let p = err_from_is_err_and c.from_residual-in_err-expect.result c.from_residual-in_err-expect.ensures.1 in
+    let d = c.in_ok-depth.ensures in
+    rw (p.1, p.2, c.in_err-expect.ensures.0) (brackets_unclosed c.args.from.depth c.args.from.symbols.now c.args.from.next c.requires.within c.requires.opening d.1 c.args.from.used _ _ c.in_ok-e.e (rw d.0 at c.in_ok-e.ensures) c.in_err-expect.ensures.1)
 
-pub bracketed-returns-else-eq : goal.bracketed-returns-else-eq
-bracketed-returns-else-eq t c = brackets_unclosed c.args.from.depth c.args.from.symbols.now c.args.from.next c.requires.within c.requires.opening (omega arith) c.args.from.used _ _ c.in_ok-e.e c.in_ok-e.ensures (λ e. (said _ _ _ c.if-eq.ensures) (c.peek.ensures.is ∙ e))
+pub bracketed-returns : goal.bracketed-returns
+bracketed-returns t c =
+    let d = c.in_ok-depth.ensures in
+    let q = c.in_ok-expect.ensures in
+    made_brackets c.args.from.depth c.args.from.symbols.now c.args.from.next c.requires.within c.requires.opening d.1 c.args.from.used _ _ c.in_ok-e.e (rw d.0 at c.in_ok-e.ensures) (inside _ _ RIGHT refl q) q
 
 pub calls-returns-in_err-e : goal.calls-returns-in_err-e
 calls-returns-in_err-e t c =
-    let e = (said _ _ _ c.loop-nodes-test.ensures) in
+    let e = (said _ _ _ c.loop-further-test.ensures) in
     let p = err_from_is_err_and c.from_residual.result c.from_residual.ensures.1 in
-    rw (p.1, p.2) (more_refused c.args.from.depth c.args.from.symbols.now c.args.from.next c.args.from.used c.requires.deep _ _ c.loop-nodes.at c.loop-nodes.invariant (c.peek.ensures.there (far COMMA _ refl e)) (sym c.peek.ensures.is ∙ e) _ c.in_err-e.ensures)
+    rw (p.1, p.2) (more_refused c.args.from.depth c.args.from.symbols.now c.args.from.next c.args.from.used c.requires.deep _ _ c.loop-further.at c.loop-further.invariant (c.peek.ensures.there (far COMMA _ refl e)) (sym c.peek.ensures.is ∙ e) _ c.in_err-e.ensures)
 
-pub calls-loop-nodes-preserved : goal.calls-loop-nodes-preserved
-calls-loop-nodes-preserved t c =
-    let e = (said _ _ _ c.loop-nodes-test.ensures) in
-    more_goes c.args.from.depth c.args.from.symbols.now c.args.from.next c.args.from.used c.requires.deep _ _ c.loop-nodes.at c.loop-nodes.invariant (c.peek.ensures.there (far COMMA _ refl e)) (sym c.peek.ensures.is ∙ e) _ c.in_ok-e.e (omega (arith, c.in_ok-e.ensures)) c.in_ok-e.ensures
+pub calls-loop-further-preserved : goal.calls-loop-further-preserved
+calls-loop-further-preserved t c =
+    let e = (said _ _ _ c.loop-further-test.ensures) in
+    more_goes c.args.from.depth c.args.from.symbols.now c.args.from.next c.args.from.used c.requires.deep _ _ c.loop-further.at c.loop-further.invariant (c.peek.ensures.there (far COMMA _ refl e)) (sym c.peek.ensures.is ∙ e) _ c.in_ok-e.e (omega (arith, c.in_ok-e.ensures)) c.in_ok-e.ensures
 
-pub calls-returns-then-ne : goal.calls-returns-then-ne
-calls-returns-then-ne t c = more_unclosed c.args.from.depth c.args.from.symbols.now c.args.from.next c.args.from.used c.requires.deep _ _ c.loop-nodes.at c.loop-nodes.invariant (λ e. (said _ _ _ c.loop-nodes-test.ensures) (c.peek.ensures.is ∙ e)) (λ e. let u = c.if-ne.ensures in differs _ _ u (c.peek-2.ensures.is ∙ e))
+pub calls-returns-in_err-expect : goal.calls-returns-in_err-expect
+calls-returns-in_err-expect t c =
+    let p = err_from_is_err_and c.from_residual-in_err-expect.result c.from_residual-in_err-expect.ensures.1 in
+    rw (p.1, p.2, c.in_err-expect.ensures.0) (more_unclosed c.args.from.depth c.args.from.symbols.now c.args.from.next c.args.from.used c.requires.deep _ _ c.loop-further.at c.loop-further.invariant (λ e. (said _ _ _ c.loop-further-test.ensures) (c.peek.ensures.is ∙ e)) c.in_err-expect.ensures.1)
 
 pub calls-returns : goal.calls-returns
 calls-returns t c =
-    let u = c.if-ne.ensures in
-    let e = agrees _ _ u in
-    made_calls c.args.from.depth c.args.from.symbols.now c.args.from.next c.args.from.used c.requires.deep _ _ c.loop-nodes.at c.loop-nodes.invariant (omega arith) c.requires.named c.requires.within c.requires.opening (λ e. (said _ _ _ c.loop-nodes-test.ensures) (c.peek.ensures.is ∙ e)) (c.peek-2.ensures.there (far RIGHT _ refl e)) (sym c.peek-2.ensures.is ∙ e) (omega arith)
+    let q = c.in_ok-expect.ensures in
+    made_calls c.args.from.depth c.args.from.symbols.now c.args.from.next c.args.from.used c.requires.deep _ _ c.loop-further.at c.loop-further.invariant (omega arith) c.requires.named c.requires.within c.requires.opening (λ e. (said _ _ _ c.loop-further-test.ensures) (c.peek.ensures.is ∙ e)) (inside _ _ RIGHT refl q) q (omega arith)
 
 pub expr-returns : goal.expr-returns
 expr-returns t c = otherwise c.level.result (λ p m. expr_made c.args.from.depth c.args.from.symbols.now c.args.from.next c.args.from.used _ _ p m) (λ f r. expr_refused c.args.from.depth c.args.from.symbols.now c.args.from.next c.args.from.used f r) c.level.ensures
-
-pub form-variable-requires : goal.form-variable-requires
-form-variable-requires t c = (omega (arith, c.decreases), (simp length-set (omega arith), counts by_name _ _ _ _ _ _ _ (made_name c.args.from.depth c.args.from.symbols.now c.args.from.next c.args.from.used c.args.nodes.now c.requires.within c.requires.named (λ e. (said _ _ _ c.if-eq.ensures) (c.peek.ensures.is ∙ e)) (omega arith))))
 
 pub form-returns : goal.form-returns
 form-returns t c =
@@ -113,19 +101,19 @@ form-returns t c =
 pub level-returns-then-n-eq0 : goal.level-returns-then-n-eq0
 level-returns-then-n-eq0 t c = otherwise c.term.result (λ p m. level_zero c.args.from.depth c.args.from.symbols.now c.args.from.next c.args.from.used c.args.n c.if-n-eq0.true _ _ p m) (λ f r α. r (links_on ∷ α)) c.term.ensures
 
-pub level-loop-nodes-init : goal.level-loop-nodes-init
-level-loop-nodes-init t c = level_up c.args.from.depth c.args.from.symbols.now c.args.from.next c.args.from.used (c.args.n - 1) _ _ c.in_ok-at.at c.in_ok-at.ensures
+pub level-loop-operand-init : goal.level-loop-operand-init
+level-loop-operand-init t c = level_up c.args.from.depth c.args.from.symbols.now c.args.from.next c.args.from.used (c.args.n - 1) _ _ c.in_ok-at.at c.in_ok-at.ensures
 
 pub level-returns-in_err-e : goal.level-returns-in_err-e
 level-returns-in_err-e t c =
     let p = err_from_is_err_and c.from_residual-in_err-e.result c.from_residual-in_err-e.ensures.1 in
-    rw (p.1, p.2) (level_refused c.args.from.depth c.args.from.symbols.now c.args.from.next c.args.from.used (c.args.n - 1) _ _ c.loop-nodes.at c.loop-nodes.invariant (c.peek.ensures.there (no_stop _ (c.args.n - 1) (sym c.rank.ensures ∙ c.loop-nodes-test.true) (omega arith))) (ap rank_of (sym c.peek.ensures.is) ∙ sym c.rank.ensures ∙ c.loop-nodes-test.true) (omega arith) _ c.in_err-e.ensures)
+    rw (p.1, p.2) (level_refused c.args.from.depth c.args.from.symbols.now c.args.from.next c.args.from.used (c.args.n - 1) _ _ c.loop-operand.at c.loop-operand.invariant (c.peek.ensures.there (no_stop _ (c.args.n - 1) (sym c.rank.ensures ∙ c.loop-operand-test.true) (omega arith))) (ap rank_of (sym c.peek.ensures.is) ∙ sym c.rank.ensures ∙ c.loop-operand-test.true) (omega arith) _ c.in_err-e.ensures)
 
-pub level-loop-nodes-preserved : goal.level-loop-nodes-preserved
-level-loop-nodes-preserved t c = level_goes c.args.from.depth c.args.from.symbols.now c.args.from.next c.args.from.used (c.args.n - 1) _ _ c.loop-nodes.at c.loop-nodes.invariant (c.peek.ensures.there (no_stop _ (c.args.n - 1) (sym c.rank.ensures ∙ c.loop-nodes-test.true) (omega arith))) (ap rank_of (sym c.peek.ensures.is) ∙ sym c.rank.ensures ∙ c.loop-nodes-test.true) (omega arith) _ c.in_ok-e.e _ c.peek-in-loop-nodes.ensures.is (omega (arith, c.in_ok-e.ensures)) c.in_ok-e.ensures
+pub level-loop-operand-preserved : goal.level-loop-operand-preserved
+level-loop-operand-preserved t c = level_goes c.args.from.depth c.args.from.symbols.now c.args.from.next c.args.from.used (c.args.n - 1) _ _ c.loop-operand.at c.loop-operand.invariant (c.peek.ensures.there (no_stop _ (c.args.n - 1) (sym c.rank.ensures ∙ c.loop-operand-test.true) (omega arith))) (ap rank_of (sym c.peek.ensures.is) ∙ sym c.rank.ensures ∙ c.loop-operand-test.true) (omega arith) _ c.in_ok-e.e _ c.peek-in-loop-operand.ensures.is (omega (arith, c.in_ok-e.ensures)) c.in_ok-e.ensures
 
 pub level-returns : goal.level-returns
-level-returns t c = level_ends c.args.from.depth c.args.from.symbols.now c.args.from.next c.args.from.used (c.args.n - 1) _ _ c.loop-nodes.at c.loop-nodes.invariant c.args.n (omega arith) _ c.in_ok-at.ensures.kept (λ e. c.loop-nodes-test.false (c.rank.ensures ∙ ap rank_of c.peek.ensures.is ∙ e))
+level-returns t c = level_ends c.args.from.depth c.args.from.symbols.now c.args.from.next c.args.from.used (c.args.n - 1) _ _ c.loop-operand.at c.loop-operand.invariant c.args.n (omega arith) _ c.in_ok-at.ensures.kept (λ e. c.loop-operand-test.false (c.rank.ensures ∙ ap rank_of c.peek.ensures.is ∙ e))
 
 pub primary-returns-in_err-e-in-Left : goal.primary-returns-in_err-e-in-Left
 primary-returns-in_err-e-in-Left t c =
@@ -159,11 +147,6 @@ primary-returns-in_ok-e-in-Left t c =
     let h : c.args.from.next < length c.args.from.symbols.now = n.there (far LEFT _ refl refl) in
     made_paren c.args.from.depth c.args.from.symbols.now c.args.from.next c.args.from.used _ h (sym n.is) _ c.in_ok-e-in-Left.e (omega (arith, m)) m.0 m.1
 
-pub primary-returns-in_default : goal.primary-returns-in_default
-primary-returns-in_default t c =
-    let is = c.peek.ensures.is in
-    primary_none c.args.from.depth c.args.from.symbols.now c.args.from.next c.requires.within (λ e. c.in_default.not-Integer (is ∙ e)) (λ e. c.in_default.not-Text (is ∙ e)) (λ e. c.in_default.not-Name (is ∙ e)) (λ e. c.in_default.not-Left (is ∙ e))
-
 pub term-returns-in_err-at : goal.term-returns-in_err-at
 term-returns-in_err-at t c =
     let p = err_from_is_err_and c.from_residual.result c.from_residual.ensures.1 in
@@ -179,49 +162,33 @@ term-loop-k-preserved t c =
     let v = c.loop-k.invariant in
     (omega arith, term_monad c.args.from.depth c.args.from.symbols.now c.args.from.next c.loop-k.k c.args.from.used _ _ c.loop-k.at _ (omega arith) (omega arith) (m.each (c.loop-k.k - 1) (omega arith) (omega arith)) c.peek.ensures.is (omega arith) v.1)
 
-pub term-returns : goal.term-returns
-term-returns t c = term_ends c.args.from.depth c.args.from.symbols.now c.args.from.next c.loop-k.k c.args.from.used _ _ _ c.loop-k.at (omega (arith, c.loop-k.invariant.0)) c.in_ok-at.ensures.kept c.loop-k.invariant.1
-
-pub variable-loop-nodes-init : goal.variable-loop-nodes-init
-variable-loop-nodes-init t c = (c.requires.counted, λ b m. m)
-
 pub variable-returns-in_err-e-in-Left : goal.variable-returns-in_err-e-in-Left
 variable-returns-in_err-e-in-Left t c b m =
     let p = err_from_is_err_and c.from_residual.result c.from_residual.ensures.1 in
     let n = c.in-Left.ensures in
-    rw (p.1, p.2) (left_refused b c.args.from.depth c.args.from.symbols.now c.args.from.next c.args.from.used _ _ c.loop-nodes.at (c.loop-nodes.invariant.1 b m) (n.there (far LEFT _ refl refl)) (sym n.is) _ c.in_err-e-in-Left.ensures)
+    rw (p.1, p.2) (left_refused b c.args.from.depth c.args.from.symbols.now c.args.from.next c.args.from.used _ _ c.loop-bracket.at (c.loop-bracket.invariant.1 b m) (n.there (far LEFT _ refl refl)) (sym n.is) _ c.in_err-e-in-Left.ensures)
 
-pub variable-loop-nodes-preserved-in-Left : goal.variable-loop-nodes-preserved-in-Left
-variable-loop-nodes-preserved-in-Left t c =
+pub variable-loop-bracket-preserved-in-Left : goal.variable-loop-bracket-preserved-in-Left
+variable-loop-bracket-preserved-in-Left t c =
     let m = c.in_ok-e-in-Left.ensures in
     let n = c.in-Left.ensures in
-    let v = c.loop-nodes.invariant.0 in (
+    let v = c.loop-bracket.invariant.0 in (
       record { within = m.0.within; more = omega (arith, v.more, m.0.more); few = omega (arith, v.few, m.1); below = omega arith },
-      λ b x. left_goes b c.args.from.depth c.args.from.symbols.now c.args.from.next c.args.from.used _ _ c.loop-nodes.at (c.loop-nodes.invariant.1 b x) (n.there (far LEFT _ refl refl)) (sym n.is) _ c.in_ok-e-in-Left.e (omega (arith, m, v)) m.0 m.1,
+      λ b x. left_goes b c.args.from.depth c.args.from.symbols.now c.args.from.next c.args.from.used _ _ c.loop-bracket.at (c.loop-bracket.invariant.1 b x) (n.there (far LEFT _ refl refl)) (sym n.is) _ c.in_ok-e-in-Left.e (omega (arith, m, v)) m.0 m.1,
     )
 
-pub variable-returns-then-ne : goal.variable-returns-then-ne
-variable-returns-then-ne t c b m =
+pub variable-returns-in_err-expect-in-Dot : goal.variable-returns-in_err-expect-in-Dot
+variable-returns-in_err-expect-in-Dot t c b m =
+    let p = err_from_is_err_and c.from_residual-in_err-expect-in-Dot.result c.from_residual-in_err-expect-in-Dot.ensures.1 in
     let n = c.in-Dot.ensures in
-    dot_refused b c.args.from.depth c.args.from.symbols.now c.args.from.next c.args.from.used _ _ c.loop-nodes.at (c.loop-nodes.invariant.1 b m) (n.there (far DOT _ refl refl)) (sym n.is) (λ e. let u = c.if-ne.ensures in differs _ _ u (c.peek-in-Dot.ensures.is ∙ e))
+    rw (p.1, p.2, c.in_err-expect-in-Dot.ensures.0) (dot_refused b c.args.from.depth c.args.from.symbols.now c.args.from.next c.args.from.used _ _ c.loop-bracket.at (c.loop-bracket.invariant.1 b m) (n.there (far DOT _ refl refl)) (sym n.is) c.in_err-expect-in-Dot.ensures.1)
 
-pub variable-loop-nodes-preserved : goal.variable-loop-nodes-preserved
-variable-loop-nodes-preserved t c =
+pub variable-loop-bracket-preserved : goal.variable-loop-bracket-preserved
+variable-loop-bracket-preserved t c =
     let n = c.in-Dot.ensures in
-    let u = c.if-ne.ensures in
-    let e = agrees _ _ u in
-    let h = c.peek-in-Dot.ensures.there (far NAME _ refl e) in
-    let v = c.loop-nodes.invariant.0 in (
+    let q = c.in_ok-expect-in-Dot.ensures in
+    let h = inside _ _ NAME refl q in
+    let v = c.loop-bracket.invariant.0 in (
       record { within = omega (arith, h); more = omega (arith, v.more); few = omega (arith, v.few); below = omega arith },
-      λ b x. dot_goes b c.args.from.depth c.args.from.symbols.now c.args.from.next c.args.from.used _ _ c.loop-nodes.at (c.loop-nodes.invariant.1 b x) (n.there (far DOT _ refl refl)) (sym n.is) h (sym c.peek-in-Dot.ensures.is ∙ e) (omega (arith, h, v)),
+      λ b x. dot_goes b c.args.from.depth c.args.from.symbols.now c.args.from.next c.args.from.used _ _ c.loop-bracket.at (c.loop-bracket.invariant.1 b x) (n.there (far DOT _ refl refl)) (sym n.is) h q (omega (arith, h, v)),
     )
-
-pub variable-returns-in_default : goal.variable-returns-in_default
-variable-returns-in_default t c b m =
-    let is = c.peek.ensures.is in
-    variable_ends b c.args.from.depth c.args.from.symbols.now c.args.from.next c.args.from.used _ _ c.loop-nodes.at (c.loop-nodes.invariant.1 b m) (λ e. c.in_default.not-Left (is ∙ e)) (λ e. c.in_default.not-Dot (is ∙ e))
-
-pub level-level-requires-in-loop-nodes : goal.level-level-requires-in-loop-nodes
-level-level-requires-in-loop-nodes t c =
-    let h = c.peek.ensures.there (no_stop _ (c.args.n - 1) (sym c.rank.ensures ∙ c.loop-nodes-test.true) (omega arith)) in
-    (omega (arith, c.decreases), (omega arith, (omega (arith, h), omega (arith, h, c.loop-nodes.invariant.few))))

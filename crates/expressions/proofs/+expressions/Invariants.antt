@@ -33,23 +33,23 @@ decreases-calls l = 16 * l.from.depth + 3
 abbrev pub decreases-bracketed : goal.decreases-bracketed
 decreases-bracketed l = 16 * l.from.depth + 2
 
-abbrev pub invariant-calls-loop-nodes : goal.invariant-calls-loop-nodes
-invariant-calls-loop-nodes l = Made 0 Exprs IsExprs of_exprs (ArgsWay l.from.depth l.from.symbols.now l.from.next) l.from.symbols.now (l.from.next + 2) (l.from.used + 1) l.initial.nodes l.nodes l.at
+abbrev pub invariant-calls-loop-further : goal.invariant-calls-loop-further
+invariant-calls-loop-further l = Made 0 Exprs IsExprs of_exprs (ArgsWay l.from.depth l.from.symbols.now l.from.next) l.from.symbols.now (l.from.next + 2) (l.from.used + 1) l.initial.nodes l.nodes l.at
 
-abbrev pub decreases-calls-loop-nodes : goal.decreases-calls-loop-nodes
-decreases-calls-loop-nodes l = length l.from.symbols.now - l.at.next
+abbrev pub decreases-calls-loop-further : goal.decreases-calls-loop-further
+decreases-calls-loop-further l = length l.from.symbols.now - l.at.next
 
-abbrev pub invariant-level-loop-nodes : goal.invariant-level-loop-nodes
-invariant-level-loop-nodes l = Made 0 (Expr (suc (l.n - 1))) IsExpr of_expr (LevelWay (l.n - 1) l.from.depth l.from.symbols.now l.from.next) l.from.symbols.now l.from.next l.from.used l.initial.nodes l.nodes l.at
+abbrev pub invariant-level-loop-operand : goal.invariant-level-loop-operand
+invariant-level-loop-operand l = Made 0 (Expr (suc (l.n - 1))) IsExpr of_expr (LevelWay (l.n - 1) l.from.depth l.from.symbols.now l.from.next) l.from.symbols.now l.from.next l.from.used l.initial.nodes l.nodes l.at
 
-abbrev pub decreases-level-loop-nodes : goal.decreases-level-loop-nodes
-decreases-level-loop-nodes l = length l.from.symbols.now - l.at.next
+abbrev pub decreases-level-loop-operand : goal.decreases-level-loop-operand
+decreases-level-loop-operand l = length l.from.symbols.now - l.at.next
 
 abbrev pub invariant-term-loop-k : goal.invariant-term-loop-k
 invariant-term-loop-k l = (l.from.next ≤ l.k) × Made 0 Term IsTerm of_term (Way (a_term ∷ []) l.from.depth l.from.symbols.now l.k) l.from.symbols.now l.k l.from.used l.initial.nodes l.nodes l.at
 
-abbrev pub invariant-variable-loop-nodes : goal.invariant-variable-loop-nodes
-invariant-variable-loop-nodes l = Counted l.from.symbols.now l.from.next l.from.used l.at × ((b : Opening) → VariableMade b l.from.depth l.from.symbols.now l.from.next l.from.used l.initial.nodes l.initial.nodes l.initial.at → VariableMade b l.from.depth l.from.symbols.now l.from.next l.from.used l.initial.nodes l.nodes l.at)
+abbrev pub invariant-variable-loop-bracket : goal.invariant-variable-loop-bracket
+invariant-variable-loop-bracket l = Counted l.from.symbols.now l.from.next l.from.used l.at × ((b : Opening) → VariableMade b l.from.depth l.from.symbols.now l.from.next l.from.used l.initial.nodes l.initial.nodes l.initial.at → VariableMade b l.from.depth l.from.symbols.now l.from.next l.from.used l.initial.nodes l.nodes l.at)
 
-abbrev pub decreases-variable-loop-nodes : goal.decreases-variable-loop-nodes
-decreases-variable-loop-nodes l = length l.from.symbols.now - l.at.next
+abbrev pub decreases-variable-loop-bracket : goal.decreases-variable-loop-bracket
+decreases-variable-loop-bracket l = length l.from.symbols.now - l.at.next
