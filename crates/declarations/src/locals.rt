@@ -20,18 +20,13 @@ fn local(from: Spot<'_>, nodes: &mut [Node]) -> Result<Parsed, Fault>
     ensures { ReadsFewer 0 Local IsLocal of_ended LocalWay (Refused (a_body ∷ [])) from.entry nodes.old nodes.new result }
 {
     let m = mode(from, nodes)?;
-    let n = names(
-        InBlock,
-        Spot {
-            next: m.next,
-            used: m.used,
-            ..from
-        },
-        nodes,
-    )?;
-    if from.peek(n.next) != Symbol::Semi {
-        return Err(Fault::Syntax(n.next));
-    }
+    let behind = Spot {
+        next: m.next,
+        used: m.used,
+        ..from
+    };
+    let n = names(InBlock, behind, nodes)?;
+    from.expect(n.next, Symbol::Semi)?;
     nodes[n.used] = Node::Local(m.root, n.root);
     Ok(Parsed {
         next: n.next + 1,
