@@ -84,14 +84,11 @@ fn structures<D: Declares>(of: D, from: Spot<'_>, nodes: &mut [Node]) -> Result<
     requires room { Room 1 from nodes.old }
     ensures { ReadsTo 1 (Dec (Listing D.sort)) (IsDec (IsListing D.sort)) (of_dec (of_listing D.sort)) (each (the_decs D.sort) ∷ []) from.entry nodes.old nodes.new result }
 {
-    let n = names(
-        of,
-        Spot {
-            next: from.next + 1,
-            ..from
-        },
-        nodes,
-    )?;
+    let behind = Spot {
+        next: from.next + 1,
+        ..from
+    };
+    let n = names(of, behind, nodes)?;
     nodes[n.used] = Node::Structures(from.next, n.root);
     Ok(Parsed {
         next: n.next,
@@ -108,15 +105,12 @@ fn variables<D: Declares>(of: D, from: Spot<'_>, nodes: &mut [Node]) -> Result<P
     ensures { ReadsTo 1 (Dec (Listing D.sort)) (IsDec (IsListing D.sort)) (of_dec (of_listing D.sort)) (each (the_decs D.sort) ∷ []) from.entry nodes.old nodes.new result }
 {
     let m = mode(from, nodes)?;
-    let n = names(
-        of,
-        Spot {
-            next: m.next,
-            used: m.used,
-            ..from
-        },
-        nodes,
-    )?;
+    let behind = Spot {
+        next: m.next,
+        used: m.used,
+        ..from
+    };
+    let n = names(of, behind, nodes)?;
     nodes[n.used] = Node::Variables(m.root, n.root);
     Ok(Parsed {
         next: n.next,

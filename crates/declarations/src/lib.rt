@@ -228,9 +228,7 @@ fn list(from: Spot<'_>, nodes: &mut [Node]) -> Result<Parsed, Fault>
     requires room { Room 0 from nodes.old }
     ensures { ReadsTo 0 Value IsValue of_value (a_value ∷ []) from.entry nodes.old nodes.new result }
 {
-    if from.depth == 0 {
-        return Err(Fault::Deep(from.next));
-    }
+    let depth = from.deeper(from.next)?;
     if from.peek(from.next + 1) == Symbol::Right {
         nodes[from.used] = Node::EmptyList(from.next);
         return Ok(Parsed {
@@ -239,17 +237,13 @@ fn list(from: Spot<'_>, nodes: &mut [Node]) -> Result<Parsed, Fault>
             root: from.used,
         });
     }
-    let v = values(
-        Spot {
-            next: from.next + 1,
-            depth: from.depth - 1,
-            ..from
-        },
-        nodes,
-    )?;
-    if from.peek(v.next) != Symbol::Right {
-        return Err(Fault::Syntax(v.next));
-    }
+    let inside = Spot {
+        next: from.next + 1,
+        depth,
+        ..from
+    };
+    let v = values(inside, nodes)?;
+    from.expect(v.next, Symbol::Right)?;
     nodes[v.used] = Node::List(from.next, v.root);
     Ok(Parsed {
         next: v.next + 1,
@@ -307,15 +301,9 @@ fn entry(from: Spot<'_>, nodes: &mut [Node]) -> Result<Parsed, Fault>
     if from.peek(v.next) != Symbol::Left {
         return Ok(v);
     }
-    if from.depth == 0 {
-        return Err(Fault::Deep(v.next));
-    }
-    if from.peek(v.next + 1) != Symbol::Integer {
-        return Err(Fault::Syntax(v.next + 1));
-    }
-    if from.peek(v.next + 2) != Symbol::Right {
-        return Err(Fault::Syntax(v.next + 2));
-    }
+    let _ = from.deeper(v.next)?;
+    from.expect(v.next + 1, Symbol::Integer)?;
+    from.expect(v.next + 2, Symbol::Right)?;
     nodes[v.used] = Node::Repeated(v.root, v.next, v.next + 1);
     Ok(Parsed {
         next: v.next + 3,
@@ -333,14 +321,12 @@ fn values(from: Spot<'_>, nodes: &mut [Node]) -> Result<Parsed, Fault>
 {
     let mut at = entry(from, nodes)?;
     while from.peek(at.next) == Symbol::Comma {
-        let e = entry(
-            Spot {
-                next: at.next + 1,
-                used: at.used,
-                ..from
-            },
-            nodes,
-        )?;
+        let behind = Spot {
+            next: at.next + 1,
+            used: at.used,
+            ..from
+        };
+        let e = entry(behind, nodes)?;
         nodes[e.used] = Node::Also(at.root, e.root);
         at = Parsed {
             next: e.next,

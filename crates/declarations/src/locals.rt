@@ -48,14 +48,12 @@ pub fn locals(from: Spot<'_>, nodes: &mut [Node]) -> Result<Parsed, Fault>
         root: from.used,
     };
     while begins_mode(from.peek(at.next)) {
-        let l = local(
-            Spot {
-                next: at.next,
-                used: at.used,
-                ..from
-            },
-            nodes,
-        )?;
+        let behind = Spot {
+            next: at.next,
+            used: at.used,
+            ..from
+        };
+        let l = local(behind, nodes)?;
         nodes[l.used] = Node::Locals(at.root, l.root);
         at = Parsed {
             next: l.next,
