@@ -54,34 +54,21 @@ fn arrays<D: Declares>(of: D, from: Spot<'_>, nodes: &mut [Node]) -> Result<Pars
     requires room { Room 1 from nodes.old }
     ensures { ReadsTo 1 (Dec (Listing D.sort)) (IsDec (IsListing D.sort)) (of_dec (of_listing D.sort)) (each (the_decs D.sort) ∷ []) from.entry nodes.old nodes.new result }
 {
-    if from.peek(from.next + 1) != Symbol::Left {
-        return Err(Fault::Syntax(from.next + 1));
-    }
-    if from.depth == 0 {
-        return Err(Fault::Deep(from.next + 1));
-    }
-    if from.peek(from.next + 2) != Symbol::Integer {
-        return Err(Fault::Syntax(from.next + 2));
-    }
-    if from.peek(from.next + 3) != Symbol::Right {
-        return Err(Fault::Syntax(from.next + 3));
-    }
-    let m = amode(
-        Spot {
-            next: from.next + 4,
-            ..from
-        },
-        nodes,
-    )?;
-    let n = names(
-        of,
-        Spot {
-            next: m.next,
-            used: m.used,
-            ..from
-        },
-        nodes,
-    )?;
+    from.expect(from.next + 1, Symbol::Left)?;
+    let _ = from.deeper(from.next + 1)?;
+    from.expect(from.next + 2, Symbol::Integer)?;
+    from.expect(from.next + 3, Symbol::Right)?;
+    let behind = Spot {
+        next: from.next + 4,
+        ..from
+    };
+    let m = amode(behind, nodes)?;
+    let declared = Spot {
+        next: m.next,
+        used: m.used,
+        ..from
+    };
+    let n = names(of, declared, nodes)?;
     nodes[n.used] = Node::Arrays(from.next + 1, from.next + 2, m.root, n.root);
     Ok(Parsed {
         next: n.next,
@@ -97,14 +84,11 @@ fn structures<D: Declares>(of: D, from: Spot<'_>, nodes: &mut [Node]) -> Result<
     requires room { Room 1 from nodes.old }
     ensures { ReadsTo 1 (Dec (Listing D.sort)) (IsDec (IsListing D.sort)) (of_dec (of_listing D.sort)) (each (the_decs D.sort) ∷ []) from.entry nodes.old nodes.new result }
 {
-    let n = names(
-        of,
-        Spot {
-            next: from.next + 1,
-            ..from
-        },
-        nodes,
-    )?;
+    let behind = Spot {
+        next: from.next + 1,
+        ..from
+    };
+    let n = names(of, behind, nodes)?;
     nodes[n.used] = Node::Structures(from.next, n.root);
     Ok(Parsed {
         next: n.next,
@@ -121,15 +105,12 @@ fn variables<D: Declares>(of: D, from: Spot<'_>, nodes: &mut [Node]) -> Result<P
     ensures { ReadsTo 1 (Dec (Listing D.sort)) (IsDec (IsListing D.sort)) (of_dec (of_listing D.sort)) (each (the_decs D.sort) ∷ []) from.entry nodes.old nodes.new result }
 {
     let m = mode(from, nodes)?;
-    let n = names(
-        of,
-        Spot {
-            next: m.next,
-            used: m.used,
-            ..from
-        },
-        nodes,
-    )?;
+    let behind = Spot {
+        next: m.next,
+        used: m.used,
+        ..from
+    };
+    let n = names(of, behind, nodes)?;
     nodes[n.used] = Node::Variables(m.root, n.root);
     Ok(Parsed {
         next: n.next,

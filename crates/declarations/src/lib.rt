@@ -48,13 +48,11 @@ fn array_mode(from: Spot<'_>, nodes: &mut [Node]) -> Result<Parsed, Fault>
     ensures { ReadsTo 0 Mode IsMode of_mode (a_mode ∷ []) from.entry nodes.old nodes.new result }
 {
     if from.peek(from.next + 2) != Symbol::Left {
-        let m = amode(
-            Spot {
-                next: from.next + 2,
-                ..from
-            },
-            nodes,
-        )?;
+        let behind = Spot {
+            next: from.next + 2,
+            ..from
+        };
+        let m = amode(behind, nodes)?;
         nodes[m.used] = Node::RefArray(m.root);
         return Ok(Parsed {
             next: m.next,
@@ -62,19 +60,13 @@ fn array_mode(from: Spot<'_>, nodes: &mut [Node]) -> Result<Parsed, Fault>
             root: m.used,
         });
     }
-    if from.depth == 0 {
-        return Err(Fault::Deep(from.next + 2));
-    }
-    if from.peek(from.next + 3) != Symbol::Right {
-        return Err(Fault::Syntax(from.next + 3));
-    }
-    let m = amode(
-        Spot {
-            next: from.next + 4,
-            ..from
-        },
-        nodes,
-    )?;
+    let _ = from.deeper(from.next + 2)?;
+    from.expect(from.next + 3, Symbol::Right)?;
+    let behind = Spot {
+        next: from.next + 4,
+        ..from
+    };
+    let m = amode(behind, nodes)?;
     nodes[m.used] = Node::RefArrayBrackets(from.next + 2, m.root);
     Ok(Parsed {
         next: m.next,
@@ -172,17 +164,13 @@ fn further(from: Spot<'_>, nodes: &mut [Node], at: Parsed) -> Result<Parsed, Fau
             root: at.used,
         });
     }
-    let m = mode(
-        Spot {
-            next: at.next + 1,
-            used: at.used,
-            ..from
-        },
-        nodes,
-    )?;
-    if from.peek(m.next) != Symbol::Name {
-        return Err(Fault::Syntax(m.next));
-    }
+    let behind = Spot {
+        next: at.next + 1,
+        used: at.used,
+        ..from
+    };
+    let m = mode(behind, nodes)?;
+    from.expect(m.next, Symbol::Name)?;
     nodes[m.used] = Node::NextField(at.root, m.root, m.next);
     Ok(Parsed {
         next: m.next + 1,
@@ -199,9 +187,7 @@ pub fn fields(from: Spot<'_>, nodes: &mut [Node]) -> Result<Parsed, Fault>
     ensures { ReadsTo 0 Fields IsFields of_fields (the_fields ∷ []) from.entry nodes.old nodes.new result }
 {
     let m = mode(from, nodes)?;
-    if from.peek(m.next) != Symbol::Name {
-        return Err(Fault::Syntax(m.next));
-    }
+    from.expect(m.next, Symbol::Name)?;
     nodes[m.used] = Node::Field(m.root, m.next);
     let mut at = Parsed {
         next: m.next + 1,
@@ -221,9 +207,7 @@ fn signed(from: Spot<'_>, nodes: &mut [Node]) -> Result<Parsed, Fault>
     requires room { Room 0 from nodes.old }
     ensures { ReadsTo 0 Value IsValue of_value (a_value ∷ []) from.entry nodes.old nodes.new result }
 {
-    if from.peek(from.next + 1) != Symbol::Integer {
-        return Err(Fault::Syntax(from.next + 1));
-    }
+    from.expect(from.next + 1, Symbol::Integer)?;
     nodes[from.used] = if from.peek(from.next) == Symbol::Plus {
         Node::Signed(from.next, from.next + 1)
     } else {
@@ -244,9 +228,7 @@ fn list(from: Spot<'_>, nodes: &mut [Node]) -> Result<Parsed, Fault>
     requires room { Room 0 from nodes.old }
     ensures { ReadsTo 0 Value IsValue of_value (a_value ∷ []) from.entry nodes.old nodes.new result }
 {
-    if from.depth == 0 {
-        return Err(Fault::Deep(from.next));
-    }
+    let depth = from.deeper(from.next)?;
     if from.peek(from.next + 1) == Symbol::Right {
         nodes[from.used] = Node::EmptyList(from.next);
         return Ok(Parsed {
@@ -255,17 +237,13 @@ fn list(from: Spot<'_>, nodes: &mut [Node]) -> Result<Parsed, Fault>
             root: from.used,
         });
     }
-    let v = values(
-        Spot {
-            next: from.next + 1,
-            depth: from.depth - 1,
-            ..from
-        },
-        nodes,
-    )?;
-    if from.peek(v.next) != Symbol::Right {
-        return Err(Fault::Syntax(v.next));
-    }
+    let inside = Spot {
+        next: from.next + 1,
+        depth,
+        ..from
+    };
+    let v = values(inside, nodes)?;
+    from.expect(v.next, Symbol::Right)?;
     nodes[v.used] = Node::List(from.next, v.root);
     Ok(Parsed {
         next: v.next + 1,
@@ -323,15 +301,9 @@ fn entry(from: Spot<'_>, nodes: &mut [Node]) -> Result<Parsed, Fault>
     if from.peek(v.next) != Symbol::Left {
         return Ok(v);
     }
-    if from.depth == 0 {
-        return Err(Fault::Deep(v.next));
-    }
-    if from.peek(v.next + 1) != Symbol::Integer {
-        return Err(Fault::Syntax(v.next + 1));
-    }
-    if from.peek(v.next + 2) != Symbol::Right {
-        return Err(Fault::Syntax(v.next + 2));
-    }
+    let _ = from.deeper(v.next)?;
+    from.expect(v.next + 1, Symbol::Integer)?;
+    from.expect(v.next + 2, Symbol::Right)?;
     nodes[v.used] = Node::Repeated(v.root, v.next, v.next + 1);
     Ok(Parsed {
         next: v.next + 3,
@@ -349,14 +321,12 @@ fn values(from: Spot<'_>, nodes: &mut [Node]) -> Result<Parsed, Fault>
 {
     let mut at = entry(from, nodes)?;
     while from.peek(at.next) == Symbol::Comma {
-        let e = entry(
-            Spot {
-                next: at.next + 1,
-                used: at.used,
-                ..from
-            },
-            nodes,
-        )?;
+        let behind = Spot {
+            next: at.next + 1,
+            used: at.used,
+            ..from
+        };
+        let e = entry(behind, nodes)?;
         nodes[e.used] = Node::Also(at.root, e.root);
         at = Parsed {
             next: e.next,
@@ -478,9 +448,7 @@ fn initialized<V: Initial>(of: V, from: Spot<'_>, nodes: &mut [Node]) -> Result<
     requires room { Room 0 from nodes.old }
     ensures { ReadsTo 0 (Init (InitialTree V.setting)) (IsInit (IsInitial V.setting)) (of_init (of_initial V.setting)) (each (declareds (set_sort V.setting)) ∷ []) from.entry nodes.old nodes.new result }
 {
-    if from.peek(from.next) != Symbol::Name {
-        return Err(Fault::Syntax(from.next));
-    }
+    from.expect(from.next, Symbol::Name)?;
     if from.peek(from.next + 1) != Symbol::Becomes {
         nodes[from.used] = Node::Plain(from.next);
         return Ok(Parsed {
@@ -510,9 +478,7 @@ fn bare_name(from: Spot<'_>, nodes: &mut [Node]) -> Result<Parsed, Fault>
     requires room { Room 0 from nodes.old }
     ensures { ReadsTo 0 ℕ IsName of_name (each (declareds unset) ∷ []) from.entry nodes.old nodes.new result }
 {
-    if from.peek(from.next) != Symbol::Name {
-        return Err(Fault::Syntax(from.next));
-    }
+    from.expect(from.next, Symbol::Name)?;
     nodes[from.used] = Node::Name(from.next);
     Ok(Parsed {
         next: from.next + 1,

@@ -20,18 +20,13 @@ fn local(from: Spot<'_>, nodes: &mut [Node]) -> Result<Parsed, Fault>
     ensures { ReadsFewer 0 Local IsLocal of_ended LocalWay (Refused (a_body ∷ [])) from.entry nodes.old nodes.new result }
 {
     let m = mode(from, nodes)?;
-    let n = names(
-        InBlock,
-        Spot {
-            next: m.next,
-            used: m.used,
-            ..from
-        },
-        nodes,
-    )?;
-    if from.peek(n.next) != Symbol::Semi {
-        return Err(Fault::Syntax(n.next));
-    }
+    let behind = Spot {
+        next: m.next,
+        used: m.used,
+        ..from
+    };
+    let n = names(InBlock, behind, nodes)?;
+    from.expect(n.next, Symbol::Semi)?;
     nodes[n.used] = Node::Local(m.root, n.root);
     Ok(Parsed {
         next: n.next + 1,
@@ -53,14 +48,12 @@ pub fn locals(from: Spot<'_>, nodes: &mut [Node]) -> Result<Parsed, Fault>
         root: from.used,
     };
     while begins_mode(from.peek(at.next)) {
-        let l = local(
-            Spot {
-                next: at.next,
-                used: at.used,
-                ..from
-            },
-            nodes,
-        )?;
+        let behind = Spot {
+            next: at.next,
+            used: at.used,
+            ..from
+        };
+        let l = local(behind, nodes)?;
         nodes[l.used] = Node::Locals(at.root, l.root);
         at = Parsed {
             next: l.next,

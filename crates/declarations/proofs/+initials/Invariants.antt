@@ -15,8 +15,8 @@ decreases-value l = 4 * l.from.depth + 1
 abbrev pub decreases-list : goal.decreases-list
 decreases-list l = 4 * l.from.depth
 
-abbrev pub invariant-values-loop-nodes : goal.invariant-values-loop-nodes
-invariant-values-loop-nodes l = SomeMade 0 entries (all entries) l.from.depth l.from.symbols.now l.from.next l.from.used l.initial.nodes l.nodes l.at
+abbrev pub invariant-values-loop-behind : goal.invariant-values-loop-behind
+invariant-values-loop-behind l = SomeMade 0 entries (all entries) l.from.depth l.from.symbols.now l.from.next l.from.used l.initial.nodes l.nodes l.at
 
-abbrev pub decreases-values-loop-nodes : goal.decreases-values-loop-nodes
-decreases-values-loop-nodes l = length l.from.symbols.now - l.at.next
+abbrev pub decreases-values-loop-behind : goal.decreases-values-loop-behind
+decreases-values-loop-behind l = length l.from.symbols.now - l.at.next

@@ -2,7 +2,7 @@ use Rattle.std.proofs.Common.{◌≡◌, get_or, sym, refl, ◌∙◌, arith}
 use Rattle.std.proofs.lemmas.Result.{err_from_is_err_and}
 use Rattle.grammar.specs.Symbols.{STOP, NAME, INT, BYTE, LEFT, RIGHT}
 use Rattle.nodes.proofs.Results.{otherwise}
-use Rattle.nodes.proofs.Build.{far}
+use Rattle.nodes.proofs.Build.{far, inside}
 use Rattle.declarations.proofs.Modes.{mode_none, simple_refused, made_simple, made_int, made_byte, made_records, target_none, made_ref_int, made_ref_byte, made_ref_record, bare_refused, made_array, dims_deep, dims_unclosed, dims_refused, made_brackets}
 use Rattle.grammar.proofs.Tests.{said, differs, agrees}
 use Rattle.declarations.proofs.+modes.Goals as goal
@@ -67,38 +67,33 @@ array_mode-returns-then-ne t c =
     let u = c.if-ne.ensures in
     made_array c.args.from.depth c.args.from.symbols.now c.args.from.next c.args.from.used c.args.nodes.now (omega (arith, c.requires.there)) c.requires.refers c.requires.there c.requires.array (λ e. differs _ _ u (c.peek.ensures.is ∙ e)) _ c.in_ok-m.m (omega (arith, c.in_ok-m.ensures)) c.in_ok-m.ensures
 
-pub array_mode-returns-then-from-eq0 : goal.array_mode-returns-then-from-eq0
-array_mode-returns-then-from-eq0 t c =
-    let u = c.if-ne.ensures in
-    let e = agrees _ _ u in
+pub array_mode-returns-in_err-deeper : goal.array_mode-returns-in_err-deeper
+array_mode-returns-in_err-deeper t c =
+    let e = agrees _ _ c.if-ne.ensures in
     let h = c.peek.ensures.there (far LEFT _ refl e) in
-    dims_deep c.args.from.depth c.args.from.symbols.now c.args.from.next c.args.from.used c.args.nodes.now (omega (arith, c.requires.there)) c.requires.refers c.requires.there c.requires.array h (sym c.peek.ensures.is ∙ e) c.if-from-eq0.true
+    let p = err_from_is_err_and c.from_residual-in_err-deeper.result c.from_residual-in_err-deeper.ensures.1 in
+    rw (p.1, p.2, c.in_err-deeper.ensures.0) (dims_deep c.args.from.depth c.args.from.symbols.now c.args.from.next c.args.from.used c.args.nodes.now (omega (arith, c.requires.there)) c.requires.refers c.requires.there c.requires.array h (sym c.peek.ensures.is ∙ e) c.in_err-deeper.ensures.1)
 
-pub array_mode-returns-then-ne-2 : goal.array_mode-returns-then-ne-2
-array_mode-returns-then-ne-2 t c =
-    let u = c.if-ne.ensures in
-    let e = agrees _ _ u in
+pub array_mode-returns-in_err-expect : goal.array_mode-returns-in_err-expect
+array_mode-returns-in_err-expect t c =
+    let e = agrees _ _ c.if-ne.ensures in
     let h = c.peek.ensures.there (far LEFT _ refl e) in
-    let v = c.if-ne-2.ensures in
-    dims_unclosed c.args.from.depth c.args.from.symbols.now c.args.from.next c.args.from.used c.args.nodes.now (omega (arith, c.requires.there)) c.requires.refers c.requires.there c.requires.array h (sym c.peek.ensures.is ∙ e) (omega arith) (λ x. differs _ _ v (c.peek-2.ensures.is ∙ x))
+    let p = err_from_is_err_and c.from_residual-in_err-expect.result c.from_residual-in_err-expect.ensures.1 in
+    rw (p.1, p.2, c.in_err-expect.ensures.0) (dims_unclosed c.args.from.depth c.args.from.symbols.now c.args.from.next c.args.from.used c.args.nodes.now (omega (arith, c.requires.there)) c.requires.refers c.requires.there c.requires.array h (sym c.peek.ensures.is ∙ e) c.in_ok-deeper.ensures.1 c.in_err-expect.ensures.1)
 
 pub array_mode-returns-in_err-m-2 : goal.array_mode-returns-in_err-m-2
 array_mode-returns-in_err-m-2 t c =
-    let u = c.if-ne.ensures in
-    let e = agrees _ _ u in
+    let e = agrees _ _ c.if-ne.ensures in
     let h = c.peek.ensures.there (far LEFT _ refl e) in
-    let v = c.if-ne-2.ensures in
-    let x = agrees _ _ v in
-    let k = c.peek-2.ensures.there (far RIGHT _ refl x) in
+    let x = c.in_ok-expect.ensures in
+    let k = inside _ _ RIGHT refl x in
     let p = err_from_is_err_and c.from_residual-in_err-m-2.result c.from_residual-in_err-m-2.ensures.1 in
-    rw (p.1, p.2) (dims_refused c.args.from.depth c.args.from.symbols.now c.args.from.next c.args.from.used c.args.nodes.now (omega (arith, c.requires.there)) c.requires.refers c.requires.there c.requires.array h (sym c.peek.ensures.is ∙ e) (omega arith) k (sym c.peek-2.ensures.is ∙ x) _ c.in_err-m-2.ensures)
+    rw (p.1, p.2) (dims_refused c.args.from.depth c.args.from.symbols.now c.args.from.next c.args.from.used c.args.nodes.now (omega (arith, c.requires.there)) c.requires.refers c.requires.there c.requires.array h (sym c.peek.ensures.is ∙ e) c.in_ok-deeper.ensures.1 k x _ c.in_err-m-2.ensures)
 
 pub array_mode-returns : goal.array_mode-returns
 array_mode-returns t c =
-    let u = c.if-ne.ensures in
-    let e = agrees _ _ u in
+    let e = agrees _ _ c.if-ne.ensures in
     let h = c.peek.ensures.there (far LEFT _ refl e) in
-    let v = c.if-ne-2.ensures in
-    let x = agrees _ _ v in
-    let k = c.peek-2.ensures.there (far RIGHT _ refl x) in
-    made_brackets c.args.from.depth c.args.from.symbols.now c.args.from.next c.args.from.used c.args.nodes.now (omega (arith, c.requires.there)) c.requires.refers c.requires.there c.requires.array h (sym c.peek.ensures.is ∙ e) (omega arith) k (sym c.peek-2.ensures.is ∙ x) _ c.in_ok-m-2.m (omega (arith, c.in_ok-m-2.ensures)) c.in_ok-m-2.ensures
+    let x = c.in_ok-expect.ensures in
+    let k = inside _ _ RIGHT refl x in
+    made_brackets c.args.from.depth c.args.from.symbols.now c.args.from.next c.args.from.used c.args.nodes.now (omega (arith, c.requires.there)) c.requires.refers c.requires.there c.requires.array h (sym c.peek.ensures.is ∙ e) c.in_ok-deeper.ensures.1 k x _ c.in_ok-m-2.m (omega (arith, c.in_ok-m-2.ensures)) c.in_ok-m-2.ensures

@@ -1,9 +1,9 @@
 use Rattle.std.proofs.Common.{sym, refl, ◌∙◌, arith}
 use Rattle.std.proofs.lemmas.Result.{err_from_is_err_and}
 use Rattle.grammar.specs.Symbols.{NAME}
-use Rattle.nodes.proofs.Build.{far}
+use Rattle.nodes.proofs.Build.{far, inside}
 use Rattle.declarations.proofs.Components.{made_also, further_refused, further_no_name, made_next}
-use Rattle.grammar.proofs.Tests.{said, differs, agrees}
+use Rattle.grammar.proofs.Tests.{said}
 use Rattle.declarations.proofs.further.Goals as goal
 
 pub returns-then-eq : goal.returns-then-eq
@@ -17,15 +17,14 @@ returns-in_err-m c =
     let p = err_from_is_err_and c.from_residual.result c.from_residual.ensures.1 in
     rw (p.1, p.2) (further_refused c.args.from.depth c.args.from.symbols.now c.args.from.next c.args.from.used _ _ c.args.at c.requires.begun c.requires.there c.requires.comma (λ e. (said _ _ _ c.if-eq.ensures) (c.peek.ensures.is ∙ e)) _ c.in_err-m.ensures)
 
-pub returns-then-ne : goal.returns-then-ne
-returns-then-ne c =
-    let u = c.if-ne.ensures in
-    further_no_name c.args.from.depth c.args.from.symbols.now c.args.from.next c.args.from.used _ _ c.args.at c.requires.begun c.requires.there c.requires.comma (λ e. (said _ _ _ c.if-eq.ensures) (c.peek.ensures.is ∙ e)) _ c.in_ok-m.m c.in_ok-m.ensures (λ e. differs _ _ u (c.peek-2.ensures.is ∙ e))
+pub returns-in_err-expect : goal.returns-in_err-expect
+returns-in_err-expect c =
+    let p = err_from_is_err_and c.from_residual-in_err-expect.result c.from_residual-in_err-expect.ensures.1 in
+    rw (p.1, p.2, c.in_err-expect.ensures.0) (further_no_name c.args.from.depth c.args.from.symbols.now c.args.from.next c.args.from.used _ _ c.args.at c.requires.begun c.requires.there c.requires.comma (λ e. (said _ _ _ c.if-eq.ensures) (c.peek.ensures.is ∙ e)) _ c.in_ok-m.m c.in_ok-m.ensures c.in_err-expect.ensures.1)
 
 pub returns : goal.returns
 returns c =
-    let u = c.if-ne.ensures in
-    let e = agrees _ _ u in
-    let h = c.peek-2.ensures.there (far NAME _ refl e) in
+    let e = c.in_ok-expect.ensures in
+    let h = inside _ _ NAME refl e in
     let m = c.in_ok-m.ensures in
-    (made_next c.args.from.depth c.args.from.symbols.now c.args.from.next c.args.from.used _ _ c.args.at c.requires.begun c.requires.there c.requires.comma (λ e. (said _ _ _ c.if-eq.ensures) (c.peek.ensures.is ∙ e)) _ c.in_ok-m.m m h (sym c.peek-2.ensures.is ∙ e) (omega (arith, h, m.few, c.requires.begun.few)), omega (arith, m.few, m.more))
+    (made_next c.args.from.depth c.args.from.symbols.now c.args.from.next c.args.from.used _ _ c.args.at c.requires.begun c.requires.there c.requires.comma (λ e. (said _ _ _ c.if-eq.ensures) (c.peek.ensures.is ∙ e)) _ c.in_ok-m.m m h e (omega (arith, h, m.few, c.requires.begun.few)), omega (arith, m.few, m.more))

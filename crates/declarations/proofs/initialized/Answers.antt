@@ -1,27 +1,21 @@
-use Rattle.std.proofs.Common.{sym, refl, ◌∙◌, arith}
+use Rattle.std.proofs.Common.{refl, ◌∙◌, arith}
 use Rattle.std.proofs.lemmas.Result.{err_from_is_err_and}
 use Rattle.grammar.specs.Symbols.{NAME}
-use Rattle.nodes.proofs.Build.{far}
-use Rattle.declarations.proofs.Sharing.{no_name, made_plain, init_refused, made_given}
-use Rattle.grammar.proofs.Tests.{differs, agrees}
+use Rattle.nodes.proofs.Build.{inside}
+use Rattle.declarations.proofs.Sharing.{made_plain, init_refused, made_given}
+use Rattle.grammar.proofs.Tests.{differs}
 use Rattle.declarations.proofs.initialized.Goals as goal
 
 pub returns-then-ne : goal.returns-then-ne
 returns-then-ne g c =
-    let u = c.if-ne.ensures in
-    no_name g.V.Initial.setting c.args.from.depth c.args.from.symbols.now c.args.from.next c.args.from.used (λ e. differs _ _ u (c.peek.ensures.is ∙ e))
-
-pub returns-then-ne-2 : goal.returns-then-ne-2
-returns-then-ne-2 g c =
-    let u = c.if-ne.ensures in
-    let e = agrees _ _ u in
-    let h = c.peek.ensures.there (far NAME _ refl e) in
-    let w = c.if-ne-2.ensures in
-    made_plain g.V.Initial.setting c.args.from.depth c.args.from.symbols.now c.args.from.next c.args.from.used c.args.nodes.now h (sym c.peek.ensures.is ∙ e) (λ x. differs _ _ w (c.peek-2.ensures.is ∙ x)) (omega (arith, h))
+    let e = c.in_ok-expect.ensures in
+    let h = inside _ _ NAME refl e in
+    let w = c.if-ne.ensures in
+    made_plain g.V.Initial.setting c.args.from.depth c.args.from.symbols.now c.args.from.next c.args.from.used c.args.nodes.now h e (λ x. differs _ _ w (c.peek.ensures.is ∙ x)) (omega (arith, h))
 
 pub returns-in_err-v : goal.returns-in_err-v
 returns-in_err-v g c =
-    let p = err_from_is_err_and c.from_residual.result c.from_residual.ensures.1 in
+    let p = err_from_is_err_and c.from_residual-in_err-v.result c.from_residual-in_err-v.ensures.1 in
     rw (p.1, p.2) (init_refused g.V.Initial.setting c.args.from.depth c.args.from.symbols.now c.args.from.next c.args.from.used _ _ c.shared-n.result c.shared-n.ensures.0 c.shared-n.ensures.1 c.shared-n.ensures.2 _ c.in_err-v.ensures)
 
 pub bounds-nodes-v : goal.bounds-nodes-v

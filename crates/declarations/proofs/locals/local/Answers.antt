@@ -1,9 +1,8 @@
-use Rattle.std.proofs.Common.{sym, refl, ◌∙◌, arith}
+use Rattle.std.proofs.Common.{refl, arith}
 use Rattle.std.proofs.lemmas.Result.{err_from_is_err_and}
 use Rattle.grammar.specs.Symbols.{SEMI}
-use Rattle.nodes.proofs.Build.{far}
+use Rattle.nodes.proofs.Build.{inside}
 use Rattle.declarations.proofs.Bodies.{mode_refused, inits_refused, local_unended, made_local}
-use Rattle.grammar.proofs.Tests.{differs, agrees}
 use Rattle.declarations.proofs.locals.local.Goals as goal
 
 pub returns-in_err-m : goal.returns-in_err-m
@@ -16,16 +15,15 @@ returns-in_err-n c =
     let p = err_from_is_err_and c.from_residual-in_err-n.result c.from_residual-in_err-n.ensures.1 in
     rw (p.1, p.2) (inits_refused c.args.from.depth c.args.from.symbols.now c.args.from.next c.args.from.used c.requires.there c.requires.begins _ _ c.in_ok-m.m c.in_ok-m.ensures _ c.in_err-n.ensures)
 
-pub returns-then-ne : goal.returns-then-ne
-returns-then-ne c =
-    let u = c.if-ne.ensures in
-    local_unended c.args.from.depth c.args.from.symbols.now c.args.from.next c.args.from.used c.requires.there c.requires.begins _ _ c.in_ok-m.m c.in_ok-m.ensures _ c.in_ok-n.n c.in_ok-n.ensures (λ e. differs _ _ u (c.peek.ensures.is ∙ e))
+pub returns-in_err-expect : goal.returns-in_err-expect
+returns-in_err-expect c =
+    let p = err_from_is_err_and c.from_residual-in_err-expect.result c.from_residual-in_err-expect.ensures.1 in
+    rw (p.1, p.2, c.in_err-expect.ensures.0) (local_unended c.args.from.depth c.args.from.symbols.now c.args.from.next c.args.from.used c.requires.there c.requires.begins _ _ c.in_ok-m.m c.in_ok-m.ensures _ c.in_ok-n.n c.in_ok-n.ensures c.in_err-expect.ensures.1)
 
 pub returns : goal.returns
 returns c =
-    let u = c.if-ne.ensures in
-    let e = agrees _ _ u in
-    let h = c.peek.ensures.there (far SEMI _ refl e) in
+    let e = c.in_ok-expect.ensures in
+    let h = inside _ _ SEMI refl e in
     let m = c.in_ok-m.ensures in
     let l = c.in_ok-n.ensures in
-    (made_local c.args.from.depth c.args.from.symbols.now c.args.from.next c.args.from.used c.requires.there c.requires.begins _ _ c.in_ok-m.m m _ c.in_ok-n.n l h (sym c.peek.ensures.is ∙ e) (omega (arith, h, m.few, l.few)), omega (arith, m.few, l.few))
+    (made_local c.args.from.depth c.args.from.symbols.now c.args.from.next c.args.from.used c.requires.there c.requires.begins _ _ c.in_ok-m.m m _ c.in_ok-n.n l h e (omega (arith, h, m.few, l.few)), omega (arith, m.few, l.few))
