@@ -1,14 +1,9 @@
-use Rattle.std.proofs.Common.{sym, refl, ◌∙◌, arith}
+use Rattle.std.proofs.Common.{refl, arith}
 use Rattle.std.proofs.lemmas.Result.{err_from_is_err_and}
 use Rattle.grammar.specs.Symbols.{NAME, BECOMES}
 use Rattle.nodes.proofs.Build.{inside}
-use Rattle.statements.proofs.Targets.{val_no_name, val_refused, val_no_becomes, made_val}
+use Rattle.statements.proofs.Targets.{val_refused, val_no_becomes, made_val}
 use Rattle.statements.proofs.assignments.val_target.Goals as goal
-
-pub returns-in_err-expect : goal.returns-in_err-expect
-returns-in_err-expect c =
-    let p = err_from_is_err_and c.from_residual.result c.from_residual.ensures.1 in
-    rw (p.1, p.2, c.in_err-expect.ensures.0) (val_no_name c.args.from.depth c.args.from.symbols.now c.args.from.next c.args.from.used c.in_err-expect.ensures.1)
 
 pub returns-in_err-v : goal.returns-in_err-v
 returns-in_err-v c =

@@ -4,20 +4,10 @@ use Rattle.grammar.specs.Symbols.{THEN, ELSEIF, END, ENDBLOCK, TO, WHILE, DO, RE
 use Rattle.grammar.specs.Machine.{all, ors, statements, an_expr, a_body}
 use Rattle.nodes.proofs.Build.{far, inside}
 use Rattle.nodes.proofs.Repeat.{statements_begin, starts, first_refused, refused, goes, ends}
-use Rattle.declarations.proofs.Bodies.{statements_refused, made_body}
-use Rattle.statements.proofs.Blocks.{made_dummy, block_deep, block_refused, block_unclosed, made_block, arm_refused, no_then, then_refused, made_arm, branch_deep, first_arm_refused, first_arm, arms_end, further_arm_refused, further_arm, made_branch, else_refused, else_unclosed, made_else, no_end, head_refused, no_do, do_deep, do_refused, no_rep, to_opens, to_same, while_opens, while_same, made_repeat, made_loop}
+use Rattle.declarations.proofs.Bodies.{made_body}
+use Rattle.statements.proofs.Blocks.{made_dummy, block_refused, block_unclosed, made_block, then_refused, made_arm, first_arm_refused, first_arm, arms_end, further_arm_refused, further_arm, made_branch, else_refused, else_unclosed, made_else, head_refused, no_do, do_deep, do_refused, no_rep, to_opens, to_same, while_opens, while_same, made_repeat, made_loop}
 use Rattle.grammar.proofs.Tests.{said}
 use Rattle.statements.proofs.bodies.+statements.Goals as goal
-
-pub arm-returns-in_err-c : goal.arm-returns-in_err-c
-arm-returns-in_err-c t c =
-    let p = err_from_is_err_and c.from_residual.result c.from_residual.ensures.1 in
-    rw (p.1, p.2) (arm_refused c.args.from.depth c.args.from.symbols.now c.args.from.next c.args.from.used _ c.in_err-c.ensures)
-
-pub arm-returns-in_err-expect : goal.arm-returns-in_err-expect
-arm-returns-in_err-expect t c =
-    let p = err_from_is_err_and c.from_residual-in_err-expect.result c.from_residual-in_err-expect.ensures.1 in
-    rw (p.1, p.2, c.in_err-expect.ensures.0) (no_then c.args.from.depth c.args.from.symbols.now c.args.from.next c.args.from.used _ _ c.in_ok-c.c c.in_ok-c.ensures c.in_err-expect.ensures.1)
 
 pub arm-returns-in_err-q : goal.arm-returns-in_err-q
 arm-returns-in_err-q t c =
@@ -62,11 +52,6 @@ arms-returns t c =
     let x = arms_end c.args.from.depth c.args.from.symbols.now c.args.from.next c.args.from.used _ _ c.loop-inside.at v.0 v.1 _ c.in_ok-at.ensures.kept in
     (x.0, x.1, λ e. (said _ _ _ c.loop-inside-test.ensures) (c.peek.ensures.is ∙ e))
 
-pub block-returns-in_err-depth : goal.block-returns-in_err-depth
-block-returns-in_err-depth t c =
-    let p = err_from_is_err_and c.from_residual.result c.from_residual.ensures.1 in
-    rw (p.1, p.2, c.in_err-depth.ensures.0) (block_deep c.args.from.depth c.args.from.symbols.now c.args.from.next c.args.from.used c.requires.there c.requires.opening c.in_err-depth.ensures.1)
-
 pub block-returns-in_err-b : goal.block-returns-in_err-b
 block-returns-in_err-b t c =
     let p = err_from_is_err_and c.from_residual-in_err-b.result c.from_residual-in_err-b.ensures.1 in
@@ -84,21 +69,11 @@ block-returns t c =
     let m = c.in_ok-b.ensures in
     made_block c.args.from.depth c.args.from.symbols.now c.args.from.next c.args.from.used c.requires.there c.requires.opening c.in_ok-depth.depth c.in_ok-depth.ensures _ _ c.in_ok-b.b m h q (omega (arith, m.few, h, c.requires.room))
 
-pub body-returns-in_err-q : goal.body-returns-in_err-q
-body-returns-in_err-q t c =
-    let p = err_from_is_err_and c.from_residual-in_err-q.result c.from_residual-in_err-q.ensures.1 in
-    rw (p.1, p.2) (statements_refused c.args.from.depth c.args.from.symbols.now c.args.from.next c.args.from.used _ _ c.in_ok-l.l c.in_ok-l.ensures _ c.in_err-q.ensures)
-
 pub body-returns : goal.body-returns
 body-returns t c =
     let m = c.in_ok-l.ensures in
     let n = c.in_ok-q.ensures in
     made_body c.args.from.depth c.args.from.symbols.now c.args.from.next c.args.from.used _ _ c.in_ok-l.l m 1 _ c.in_ok-q.q (omega (arith, m.few, n.few, n.within, c.requires.room)) n
-
-pub branch-returns-in_err-deeper : goal.branch-returns-in_err-deeper
-branch-returns-in_err-deeper t c =
-    let p = err_from_is_err_and c.from_residual.result c.from_residual.ensures.1 in
-    rw (p.1, p.2, c.in_err-deeper.ensures.0) (branch_deep c.args.from.depth c.args.from.symbols.now c.args.from.next c.args.from.used c.requires.there c.requires.opening c.in_err-deeper.ensures.1)
 
 pub branch-returns-in-End : goal.branch-returns-in-End
 branch-returns-in-End t c =
@@ -106,12 +81,6 @@ branch-returns-in-End t c =
     let h = n.there (far END _ refl refl) in
     let m = c.in_ok-w.ensures in
     made_branch c.args.from.depth c.args.from.symbols.now c.args.from.next c.args.from.used _ _ c.in_ok-w.w m.0 m.1 h (omega arith) _ (λ j l. refl) (sym n.is) (omega (arith, m.1, h, c.requires.room))
-
-pub branch-returns-in_default : goal.branch-returns-in_default
-branch-returns-in_default t c =
-    let is = c.peek.ensures.is in
-    let m = c.in_ok-w.ensures in
-    no_end c.args.from.depth c.args.from.symbols.now c.args.from.next c.args.from.used _ _ c.in_ok-w.w m.0 m.1 m.2 (λ e. c.in_default.not-Else (is ∙ e)) (λ e. c.in_default.not-End (is ∙ e))
 
 pub otherwise-returns-in_err-q : goal.otherwise-returns-in_err-q
 otherwise-returns-in_err-q t c =
