@@ -1,5 +1,5 @@
 -- Blocks, branches, loops and returns, step by step. Assumes nothing.
-use Rattle.std.proofs.Common.{◌≡◌, ℕ, ◌+◌, ◌-◌, ◌*◌, ◌<◌, ◌≤◌, List, [], ◌∷◌, ◌++◌, length, get_or, set, refl, ap, ◌∙◌, arith}
+use Rattle.std.proofs.Common.{◌≡◌, ℕ, suc, ◌+◌, ◌-◌, ◌*◌, ◌<◌, ◌≤◌, List, [], ◌∷◌, ◌++◌, length, get_or, set, sym, refl, ap, ◌∙◌, arith}
 use Rattle.grammar.specs.Symbols.{STOP, BLOCK, ENDBLOCK, IF, THEN, ELSEIF, ELSE, END, TO, WHILE, DO, REP, RETURN, VAL, NAME, LEFT}
 use Rattle.grammar.specs.declared.Symbol.{Symbol}
 use Rattle.grammar.specs.Trees.{Token, token, key, none, some, Expr, of_expr, Condition, of_condition, Body, Sequence, dummy, block, branch, branch_else, repeat, loop, return, return_with, Arms, when, elsewhen, of_body, of_sequence, of_statement, of_arms}
@@ -33,6 +33,14 @@ ArmMade d s i used ns ms p = Made 0 Arm IsArm of_arm (Way (all ors ∷ tok THEN 
 abbrev pub ArmsMade : ℕ → List Symbol → ℕ → ℕ → List Node → List Node → Parsed → Type 0
 ArmsMade d s i used ns ms p = Made 0 Arms IsArms of_arms (ArmsWay d s i) s i used ns ms p
 
+-- one deeper
+module _ (d low : ℕ) (z : (low ≡ d - 1) × (0 < d)) where
+  fewer_low : fewer d ≡ some low
+  fewer_low = fewer_is d z.1 ∙ ap some (sym z.0)
+
+  more_low : some (suc low) ≡ some d
+  more_low = ap (λ (v : ℕ). some (suc v)) z.0 ∙ more_is d z.1
+
 module _ (d : ℕ) (s : List Symbol) (i used : ℕ) where
   -- nothing
   pub made_dummy : (ns : List Node) → i ≤ length s → used < length ns → (get_or s i STOP ≡ BLOCK → ⊥) → (get_or s i STOP ≡ IF → ⊥) → (get_or s i STOP ≡ TO → ⊥) → (get_or s i STOP ≡ WHILE → ⊥) → (get_or s i STOP ≡ RETURN → ⊥) → (get_or s i STOP ≡ VAL → ⊥) → (get_or s i STOP ≡ NAME → ⊥) → StatementMade d s i used ns (set ns used node.Dummy) (record { next = i; used = used + 1; root = used })
@@ -46,23 +54,23 @@ module _ (d : ℕ) (s : List Symbol) (i used : ℕ) where
     pub block_deep : d ≡ 0 → Refused (a_statement ∷ []) d s i (Deep i)
     block_deep z α = sink_at d (a_statement ∷ α) (a_body ∷ tok ENDBLOCK ∷ α) s i BLOCK h q refl (ap fewer z)
 
-    module _ (z : 0 < d) where
-      block_way : (α : List Goal) → at d (a_statement ∷ α) s i ≡ at (d - 1) (a_body ∷ tok ENDBLOCK ∷ α) s (i + 1)
-      block_way α = step_at d (a_statement ∷ α) (a_body ∷ tok ENDBLOCK ∷ α) s i (d - 1) BLOCK h q refl (fewer_is d z)
+    module _ (low : ℕ) (z : (low ≡ d - 1) × (0 < d)) where
+      block_way : (α : List Goal) → at d (a_statement ∷ α) s i ≡ at low (a_body ∷ tok ENDBLOCK ∷ α) s (i + 1)
+      block_way α = step_at d (a_statement ∷ α) (a_body ∷ tok ENDBLOCK ∷ α) s i low BLOCK h q refl (fewer_low d low z)
 
-      pub block_refused : (f : Fault) → Refused (a_body ∷ []) (d - 1) s (i + 1) f → Refused (a_statement ∷ []) d s i f
+      pub block_refused : (f : Fault) → Refused (a_body ∷ []) low s (i + 1) f → Refused (a_statement ∷ []) d s i f
       block_refused f r α = block_way α ∙ r (tok ENDBLOCK ∷ α)
 
-      module _ (ns ms : List Node) (b : Parsed) (m : BodyMade (d - 1) s (i + 1) used ns ms b) where
+      module _ (ns ms : List Node) (b : Parsed) (m : BodyMade low s (i + 1) used ns ms b) where
         pub block_unclosed : (get_or s b.next STOP ≡ ENDBLOCK → ⊥) → Refused (a_statement ∷ []) d s i (Syntax b.next)
-        block_unclosed n α = block_way α ∙ m.met (tok ENDBLOCK ∷ α) ∙ token_refused (d - 1) ENDBLOCK α s b.next n
+        block_unclosed n α = block_way α ∙ m.met (tok ENDBLOCK ∷ α) ∙ token_refused low ENDBLOCK α s b.next n
 
         pub made_block : b.next < length s → get_or s b.next STOP ≡ ENDBLOCK → b.used < length ms → StatementMade d s i used ns (set ms b.used (node.Block b.root)) (record { next = b.next + 1; used = b.used + 1; root = b.used })
         made_block h' q' r =
             grown 1 IsStatement of_statement (Way (a_statement ∷ []) d s i) s i used ns ms b.used (b.next + 1) (node.Block b.root) r (block m.tree) (omega arith) m.more (omega (arith, m.few)) m.kept
             (λ g a. (b.root, m.below, a, keep_body b.used ms _ g m.tree b.root m.below m.is))
             (items_here s i BLOCK h q ∙ ap (λ (v : List Token). key BLOCK ∷ v) (m.text ∙ ap (of_body m.tree) (items_here s b.next ENDBLOCK h' q')))
-            (λ α. block_way α ∙ m.met (tok ENDBLOCK ∷ α) ∙ step_at (d - 1) (tok ENDBLOCK ∷ α) α s b.next d ENDBLOCK h' q' refl (more_is d z))
+            (λ α. block_way α ∙ m.met (tok ENDBLOCK ∷ α) ∙ step_at low (tok ENDBLOCK ∷ α) α s b.next d ENDBLOCK h' q' refl (more_low d low z))
 
   -- a condition with its statements
   pub arm_refused : (f : Fault) → Refused (all ors ∷ []) d s i f → Refused (all ors ∷ tok THEN ∷ all statements ∷ []) d s i f
@@ -177,19 +185,19 @@ module _ (K : Symbol) (G B : Goal) (opens : (α : List Goal) → step_to (a_stat
       pub do_deep : d ≡ 0 → Refused (a_statement ∷ []) d s i (Deep j)
       do_deep z α = head_way α ∙ sink_at d (tok DO ∷ B ∷ tok REP ∷ α) (B ∷ tok REP ∷ α) s j DO h' q' refl (ap fewer z)
 
-      module _ (z : 0 < d) where
-        do_way : (α : List Goal) → at d (a_statement ∷ α) s i ≡ at (d - 1) (B ∷ tok REP ∷ α) s (j + 1)
-        do_way α = head_way α ∙ step_at d (tok DO ∷ B ∷ tok REP ∷ α) (B ∷ tok REP ∷ α) s j (d - 1) DO h' q' refl (fewer_is d z)
+      module _ (low : ℕ) (z : (low ≡ d - 1) × (0 < d)) where
+        do_way : (α : List Goal) → at d (a_statement ∷ α) s i ≡ at low (B ∷ tok REP ∷ α) s (j + 1)
+        do_way α = head_way α ∙ step_at d (tok DO ∷ B ∷ tok REP ∷ α) (B ∷ tok REP ∷ α) s j low DO h' q' refl (fewer_low d low z)
 
-        pub do_refused : (f : Fault) → Refused (B ∷ []) (d - 1) s (j + 1) f → Refused (a_statement ∷ []) d s i f
+        pub do_refused : (f : Fault) → Refused (B ∷ []) low s (j + 1) f → Refused (a_statement ∷ []) d s i f
         do_refused f r α = do_way α ∙ r (tok REP ∷ α)
 
-        module _ (k : ℕ) (o : (α : List Goal) → at (d - 1) (B ∷ α) s (j + 1) ≡ at (d - 1) α s k) where
+        module _ (k : ℕ) (o : (α : List Goal) → at low (B ∷ α) s (j + 1) ≡ at low α s k) where
           pub no_rep : (get_or s k STOP ≡ REP → ⊥) → Refused (a_statement ∷ []) d s i (Syntax k)
-          no_rep n α = do_way α ∙ o (tok REP ∷ α) ∙ token_refused (d - 1) REP α s k n
+          no_rep n α = do_way α ∙ o (tok REP ∷ α) ∙ token_refused low REP α s k n
 
           pub rep_way : k < length s → get_or s k STOP ≡ REP → (α : List Goal) → at d (a_statement ∷ α) s i ≡ at d α s (k + 1)
-          rep_way h'' q'' α = do_way α ∙ o (tok REP ∷ α) ∙ step_at (d - 1) (tok REP ∷ α) α s k d REP h'' q'' refl (more_is d z)
+          rep_way h'' q'' α = do_way α ∙ o (tok REP ∷ α) ∙ step_at low (tok REP ∷ α) α s k d REP h'' q'' refl (more_low d low z)
 
 pub to_opens : (α : List Goal) → step_to (a_statement ∷ α) TO ≡ some (an_expr ∷ tok DO ∷ a_body ∷ tok REP ∷ α)
 to_opens α = refl
@@ -203,22 +211,22 @@ while_opens α = refl
 pub while_same : (d : ℕ) → level d WHILE ≡ some d
 while_same d = refl
 
-module _ (d : ℕ) (s : List Symbol) (i used : ℕ) (h : i < length s) (z : 0 < d) (ns ms os : List Node) (e b : Parsed) (h' : e.next < length s) (q' : get_or s e.next STOP ≡ DO) (h'' : b.next < length s) (q'' : get_or s b.next STOP ≡ REP) (r : b.used < length os) where
-  pub made_repeat : get_or s i STOP ≡ TO → ExprMade d s (i + 1) used ns ms e → BodyMade (d - 1) s (e.next + 1) e.used ms os b → StatementMade d s i used ns (set os b.used (node.Repeat e.root b.root)) (record { next = b.next + 1; used = b.used + 1; root = b.used })
+module _ (d : ℕ) (s : List Symbol) (i used : ℕ) (h : i < length s) (low : ℕ) (z : (low ≡ d - 1) × (0 < d)) (ns ms os : List Node) (e b : Parsed) (h' : e.next < length s) (q' : get_or s e.next STOP ≡ DO) (h'' : b.next < length s) (q'' : get_or s b.next STOP ≡ REP) (r : b.used < length os) where
+  pub made_repeat : get_or s i STOP ≡ TO → ExprMade d s (i + 1) used ns ms e → BodyMade low s (e.next + 1) e.used ms os b → StatementMade d s i used ns (set os b.used (node.Repeat e.root b.root)) (record { next = b.next + 1; used = b.used + 1; root = b.used })
   made_repeat q m o =
       grown 1 IsStatement of_statement (Way (a_statement ∷ []) d s i) s i used ns os b.used (b.next + 1) (node.Repeat e.root b.root) r (repeat m.tree o.tree) (omega arith) (omega (arith, m.more, o.more)) (omega (arith, m.few, o.few))
       (agree_trans used e.used ns ms os m.more m.kept o.kept)
       (λ g x. (e.root, b.root, omega (arith, m.below, o.more), o.below, x, keep_expr b.used os _ g m.tree e.root (omega (arith, m.below, o.more)) (keep_expr e.used ms os o.kept m.tree e.root m.below m.is), keep_body b.used os _ g o.tree b.root o.below o.is))
       (items_here s i TO h q ∙ ap (λ (v : List Token). key TO ∷ v) (m.text ∙ ap (of_expr m.tree) (items_here s e.next DO h' q' ∙ ap (λ (v : List Token). key DO ∷ v) (o.text ∙ ap (of_body o.tree) (items_here s b.next REP h'' q'')))))
-      (rep_way TO an_expr a_body to_opens to_same d s i h q e.next m.met h' q' z b.next o.met h'' q'')
+      (rep_way TO an_expr a_body to_opens to_same d s i h q e.next m.met h' q' low z b.next o.met h'' q'')
 
-  pub made_loop : get_or s i STOP ≡ WHILE → ConditionMade d s (i + 1) used ns ms e → SequenceMade (d - 1) s (e.next + 1) e.used ms os b → StatementMade d s i used ns (set os b.used (node.Loop e.root b.root)) (record { next = b.next + 1; used = b.used + 1; root = b.used })
+  pub made_loop : get_or s i STOP ≡ WHILE → ConditionMade d s (i + 1) used ns ms e → SequenceMade low s (e.next + 1) e.used ms os b → StatementMade d s i used ns (set os b.used (node.Loop e.root b.root)) (record { next = b.next + 1; used = b.used + 1; root = b.used })
   made_loop q m o =
       grown 1 IsStatement of_statement (Way (a_statement ∷ []) d s i) s i used ns os b.used (b.next + 1) (node.Loop e.root b.root) r (loop m.tree o.tree) (omega arith) (omega (arith, m.more, o.more)) (omega (arith, m.few, o.few))
       (agree_trans used e.used ns ms os m.more m.kept o.kept)
       (λ g x. (e.root, b.root, omega (arith, m.below, o.more), o.below, x, keep_condition b.used os _ g m.tree e.root (omega (arith, m.below, o.more)) (keep_condition e.used ms os o.kept m.tree e.root m.below m.is), keep_sequence b.used os _ g o.tree b.root o.below o.is))
       (items_here s i WHILE h q ∙ ap (λ (v : List Token). key WHILE ∷ v) (m.text ∙ ap (of_condition m.tree) (items_here s e.next DO h' q' ∙ ap (λ (v : List Token). key DO ∷ v) (o.text ∙ ap (of_sequence o.tree) (items_here s b.next REP h'' q'')))))
-      (rep_way WHILE (all ors) (all statements) while_opens while_same d s i h q e.next m.met h' q' z b.next o.met h'' q'')
+      (rep_way WHILE (all ors) (all statements) while_opens while_same d s i h q e.next m.met h' q' low z b.next o.met h'' q'')
 
 -- RETURN
 module _ (d : ℕ) (s : List Symbol) (i used : ℕ) (ns : List Node) (h : i < length s) (q : get_or s i STOP ≡ RETURN) where

@@ -85,19 +85,13 @@ fn val_target(from: Spot<'_>, nodes: &mut [Node]) -> Result<Parsed, Fault>
     requires room { Room 0 from nodes.old }
     ensures { ReadsFewer 0 Destination IsDestination of_target ValWay (λ d s i f. Refused (tok NAME ∷ parts start ∷ []) d s (i + 1) f) from.entry nodes.old nodes.new result }
 {
-    if from.peek(from.next + 1) != Symbol::Name {
-        return Err(Fault::Syntax(from.next + 1));
-    }
-    let v = val_variable(
-        Spot {
-            next: from.next + 1,
-            ..from
-        },
-        nodes,
-    )?;
-    if from.peek(v.next) != Symbol::Becomes {
-        return Err(Fault::Syntax(v.next));
-    }
+    from.expect(from.next + 1, Symbol::Name)?;
+    let behind = Spot {
+        next: from.next + 1,
+        ..from
+    };
+    let v = val_variable(behind, nodes)?;
+    from.expect(v.next, Symbol::Becomes)?;
     nodes[v.used] = Node::Val(from.next, v.root);
     Ok(Parsed {
         next: v.next + 1,
@@ -120,8 +114,7 @@ fn destination(from: Spot<'_>, nodes: &mut [Node]) -> Result<Option<Parsed>, Fau
             }
             Ok(Some(Parsed {
                 next: f.next + 1,
-                used: f.used,
-                root: f.root,
+                ..f
             }))
         }
         _ => Ok(None),
@@ -151,14 +144,12 @@ fn assignment(from: Spot<'_>, nodes: &mut [Node], first: Parsed) -> Result<Parse
             root: d.used,
         };
     }
-    let e = expr(
-        Spot {
-            next: at.next,
-            used: at.used,
-            ..from
-        },
-        nodes,
-    )?;
+    let behind = Spot {
+        next: at.next,
+        used: at.used,
+        ..from
+    };
+    let e = expr(behind, nodes)?;
     nodes[e.used] = Node::Assign(at.root, e.root);
     Ok(Parsed {
         next: e.next,
@@ -190,8 +181,7 @@ pub fn named(from: Spot<'_>, nodes: &mut [Node]) -> Result<Parsed, Fault>
     if destined(from, f.next, shape) {
         let first = Parsed {
             next: f.next + 1,
-            used: f.used,
-            root: f.root,
+            ..f
         };
         return assignment(from, nodes, first);
     }

@@ -21,14 +21,12 @@ pub fn body(from: Spot<'_>, nodes: &mut [Node]) -> Result<Parsed, Fault>
     ensures { ReadsTo 3 Body IsBody of_body (a_body ∷ []) from.entry nodes.old nodes.new result }
 {
     let l = locals(from, nodes)?;
-    let q = sequence(
-        Spot {
-            next: l.next,
-            used: l.used,
-            ..from
-        },
-        nodes,
-    )?;
+    let behind = Spot {
+        next: l.next,
+        used: l.used,
+        ..from
+    };
+    let q = sequence(behind, nodes)?;
     nodes[q.used] = Node::Body(l.root, q.root);
     Ok(Parsed {
         next: q.next,
@@ -48,14 +46,12 @@ fn sequence(from: Spot<'_>, nodes: &mut [Node]) -> Result<Parsed, Fault>
 {
     let mut at = statement(from, nodes)?;
     while from.peek(at.next) == Symbol::Semi {
-        let e = statement(
-            Spot {
-                next: at.next + 1,
-                used: at.used,
-                ..from
-            },
-            nodes,
-        )?;
+        let behind = Spot {
+            next: at.next + 1,
+            used: at.used,
+            ..from
+        };
+        let e = statement(behind, nodes)?;
         nodes[e.used] = Node::Also(at.root, e.root);
         at = Parsed {
             next: e.next,
@@ -99,20 +95,14 @@ fn block(from: Spot<'_>, nodes: &mut [Node]) -> Result<Parsed, Fault>
     requires room { Room 1 from nodes.old }
     ensures { ReadsTo 1 Statement IsStatement of_statement (a_statement ∷ []) from.entry nodes.old nodes.new result }
 {
-    if from.depth == 0 {
-        return Err(Fault::Deep(from.next));
-    }
-    let b = body(
-        Spot {
-            next: from.next + 1,
-            depth: from.depth - 1,
-            ..from
-        },
-        nodes,
-    )?;
-    if from.peek(b.next) != Symbol::Endblock {
-        return Err(Fault::Syntax(b.next));
-    }
+    let depth = from.deeper(from.next)?;
+    let inside = Spot {
+        next: from.next + 1,
+        depth,
+        ..from
+    };
+    let b = body(inside, nodes)?;
+    from.expect(b.next, Symbol::Endblock)?;
     nodes[b.used] = Node::Block(b.root);
     Ok(Parsed {
         next: b.next + 1,
@@ -129,17 +119,13 @@ fn arm(from: Spot<'_>, nodes: &mut [Node]) -> Result<Parsed, Fault>
     ensures { ReadsTo 0 Arm IsArm of_arm (all ors ∷ tok THEN ∷ all statements ∷ []) from.entry nodes.old nodes.new result }
 {
     let c = condition(from, nodes)?;
-    if from.peek(c.next) != Symbol::Then {
-        return Err(Fault::Syntax(c.next));
-    }
-    let q = sequence(
-        Spot {
-            next: c.next + 1,
-            used: c.used,
-            ..from
-        },
-        nodes,
-    )?;
+    from.expect(c.next, Symbol::Then)?;
+    let behind = Spot {
+        next: c.next + 1,
+        used: c.used,
+        ..from
+    };
+    let q = sequence(behind, nodes)?;
     nodes[q.used] = Node::When(c.root, q.root);
     Ok(Parsed {
         next: q.next,
@@ -157,24 +143,19 @@ fn arms(from: Spot<'_>, nodes: &mut [Node]) -> Result<Parsed, Fault>
     requires room { Room 0 from nodes.old }
     ensures { MatchResult result (λ p. Made 0 Arms IsArms of_arms (ArmsWay from.entry.depth from.entry.symbols.now from.entry.next) from.entry.symbols.now from.entry.next from.entry.used nodes.old nodes.new p × (p.used + 2 * from.entry.next < 2 * p.next + from.entry.used) × (slice_index_or from.entry.symbols.now p.next STOP ≢ ELSEIF)) (λ f. Refused (a_statement ∷ []) from.entry.depth from.entry.symbols.now from.entry.next f) }
 {
-    let mut at = arm(
-        Spot {
-            next: from.next + 1,
-            depth: from.depth - 1,
-            ..from
-        },
-        nodes,
-    )?;
+    let inside = Spot {
+        next: from.next + 1,
+        depth: from.depth - 1,
+        ..from
+    };
+    let mut at = arm(inside, nodes)?;
     while from.peek(at.next) == Symbol::Elseif {
-        let a = arm(
-            Spot {
-                next: at.next + 1,
-                depth: from.depth - 1,
-                used: at.used,
-                ..from
-            },
-            nodes,
-        )?;
+        let behind = Spot {
+            next: at.next + 1,
+            used: at.used,
+            ..inside
+        };
+        let a = arm(behind, nodes)?;
         nodes[a.used] = Node::Also(at.root, a.root);
         at = Parsed {
             next: a.next,
@@ -196,18 +177,14 @@ fn otherwise(from: Spot<'_>, nodes: &mut [Node], at: Parsed) -> Result<Parsed, F
     requires begun { Made 0 Arms IsArms of_arms (ArmsWay from.depth from.symbols.now from.next) from.symbols.now from.next from.used nodes.old nodes.old at }
     ensures { ReadsTo 1 Statement IsStatement of_statement (a_statement ∷ []) from.entry nodes.old nodes.new result }
 {
-    let q = sequence(
-        Spot {
-            next: at.next + 1,
-            depth: from.depth - 1,
-            used: at.used,
-            ..from
-        },
-        nodes,
-    )?;
-    if from.peek(q.next) != Symbol::End {
-        return Err(Fault::Syntax(q.next));
-    }
+    let inside = Spot {
+        next: at.next + 1,
+        depth: from.depth - 1,
+        used: at.used,
+        ..from
+    };
+    let q = sequence(inside, nodes)?;
+    from.expect(q.next, Symbol::End)?;
     nodes[q.used] = Node::BranchElse(at.root, q.root);
     Ok(Parsed {
         next: q.next + 1,
@@ -224,9 +201,7 @@ fn branch(from: Spot<'_>, nodes: &mut [Node]) -> Result<Parsed, Fault>
     requires room { Room 1 from nodes.old }
     ensures { ReadsTo 1 Statement IsStatement of_statement (a_statement ∷ []) from.entry nodes.old nodes.new result }
 {
-    if from.depth == 0 {
-        return Err(Fault::Deep(from.next));
-    }
+    let _ = from.deeper(from.next)?;
     let w = arms(from, nodes)?;
     match from.peek(w.next) {
         Symbol::End => {
@@ -250,31 +225,21 @@ fn repeat(from: Spot<'_>, nodes: &mut [Node]) -> Result<Parsed, Fault>
     requires room { Room 1 from nodes.old }
     ensures { ReadsTo 1 Statement IsStatement of_statement (a_statement ∷ []) from.entry nodes.old nodes.new result }
 {
-    let e = expr(
-        Spot {
-            next: from.next + 1,
-            ..from
-        },
-        nodes,
-    )?;
-    if from.peek(e.next) != Symbol::Do {
-        return Err(Fault::Syntax(e.next));
-    }
-    if from.depth == 0 {
-        return Err(Fault::Deep(e.next));
-    }
-    let b = body(
-        Spot {
-            next: e.next + 1,
-            depth: from.depth - 1,
-            used: e.used,
-            ..from
-        },
-        nodes,
-    )?;
-    if from.peek(b.next) != Symbol::Rep {
-        return Err(Fault::Syntax(b.next));
-    }
+    let behind = Spot {
+        next: from.next + 1,
+        ..from
+    };
+    let e = expr(behind, nodes)?;
+    from.expect(e.next, Symbol::Do)?;
+    let depth = from.deeper(e.next)?;
+    let inside = Spot {
+        next: e.next + 1,
+        depth,
+        used: e.used,
+        ..from
+    };
+    let b = body(inside, nodes)?;
+    from.expect(b.next, Symbol::Rep)?;
     nodes[b.used] = Node::Repeat(e.root, b.root);
     Ok(Parsed {
         next: b.next + 1,
@@ -291,31 +256,21 @@ fn while_loop(from: Spot<'_>, nodes: &mut [Node]) -> Result<Parsed, Fault>
     requires room { Room 1 from nodes.old }
     ensures { ReadsTo 1 Statement IsStatement of_statement (a_statement ∷ []) from.entry nodes.old nodes.new result }
 {
-    let c = condition(
-        Spot {
-            next: from.next + 1,
-            ..from
-        },
-        nodes,
-    )?;
-    if from.peek(c.next) != Symbol::Do {
-        return Err(Fault::Syntax(c.next));
-    }
-    if from.depth == 0 {
-        return Err(Fault::Deep(c.next));
-    }
-    let q = sequence(
-        Spot {
-            next: c.next + 1,
-            depth: from.depth - 1,
-            used: c.used,
-            ..from
-        },
-        nodes,
-    )?;
-    if from.peek(q.next) != Symbol::Rep {
-        return Err(Fault::Syntax(q.next));
-    }
+    let behind = Spot {
+        next: from.next + 1,
+        ..from
+    };
+    let c = condition(behind, nodes)?;
+    from.expect(c.next, Symbol::Do)?;
+    let depth = from.deeper(c.next)?;
+    let inside = Spot {
+        next: c.next + 1,
+        depth,
+        used: c.used,
+        ..from
+    };
+    let q = sequence(inside, nodes)?;
+    from.expect(q.next, Symbol::Rep)?;
     nodes[q.used] = Node::Loop(c.root, q.root);
     Ok(Parsed {
         next: q.next + 1,
@@ -339,13 +294,11 @@ fn returning(from: Spot<'_>, nodes: &mut [Node]) -> Result<Parsed, Fault>
             root: from.used,
         });
     }
-    let e = bracketed(
-        Spot {
-            next: from.next + 1,
-            ..from
-        },
-        nodes,
-    )?;
+    let behind = Spot {
+        next: from.next + 1,
+        ..from
+    };
+    let e = bracketed(behind, nodes)?;
     nodes[e.used] = Node::ReturnWith(from.next, from.next + 1, e.root);
     Ok(Parsed {
         next: e.next,

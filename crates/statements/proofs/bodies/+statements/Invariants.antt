@@ -34,14 +34,14 @@ decreases-statement l = 8 * l.from.depth + 5
 abbrev pub decreases-while_loop : goal.decreases-while_loop
 decreases-while_loop l = 8 * l.from.depth + 4
 
-abbrev pub invariant-arms-loop-nodes : goal.invariant-arms-loop-nodes
-invariant-arms-loop-nodes l = ArmsMade l.from.depth l.from.symbols.now l.from.next l.from.used l.initial.nodes l.nodes l.at × (l.at.used + 2 * l.from.next < 2 * l.at.next + l.from.used)
+abbrev pub invariant-arms-loop-inside : goal.invariant-arms-loop-inside
+invariant-arms-loop-inside l = ArmsMade l.from.depth l.from.symbols.now l.from.next l.from.used l.initial.nodes l.nodes l.at × (l.at.used + 2 * l.from.next < 2 * l.at.next + l.from.used)
 
-abbrev pub decreases-arms-loop-nodes : goal.decreases-arms-loop-nodes
-decreases-arms-loop-nodes l = length l.from.symbols.now - l.at.next
+abbrev pub decreases-arms-loop-inside : goal.decreases-arms-loop-inside
+decreases-arms-loop-inside l = length l.from.symbols.now - l.at.next
 
-abbrev pub invariant-sequence-loop-nodes : goal.invariant-sequence-loop-nodes
-invariant-sequence-loop-nodes l = SomeMade 1 statements (all statements) l.from.depth l.from.symbols.now l.from.next l.from.used l.initial.nodes l.nodes l.at
+abbrev pub invariant-sequence-loop-behind : goal.invariant-sequence-loop-behind
+invariant-sequence-loop-behind l = SomeMade 1 statements (all statements) l.from.depth l.from.symbols.now l.from.next l.from.used l.initial.nodes l.nodes l.at
 
-abbrev pub decreases-sequence-loop-nodes : goal.decreases-sequence-loop-nodes
-decreases-sequence-loop-nodes l = length l.from.symbols.now - l.at.next
+abbrev pub decreases-sequence-loop-behind : goal.decreases-sequence-loop-behind
+decreases-sequence-loop-behind l = length l.from.symbols.now - l.at.next
