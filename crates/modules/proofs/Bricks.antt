@@ -4,8 +4,8 @@ use Rattle.grammar.specs.Symbols.{STOP, NAME, SEMI, DATA, ENDDATA, PROC, ENDPROC
 use Rattle.grammar.specs.declared.Symbol.{Symbol}
 use Rattle.grammar.specs.Trees.{Token, token, key, Many, of_many, Opt, of_opt, Dec, of_dec, Fields, of_fields, Mode, of_mode, of_body, Brick, store, procedure, of_brick}
 use Rattle.grammar.specs.Sentences.{items}
-use Rattle.grammar.specs.Machine.{Goal, refuse, tok, all, decs, maybe_fields, maybe_mode, a_brick, a_body, fewer, Sort, set as set_sort, stored}
-use Rattle.grammar.proofs.Steps.{items_here, step_at, sink_at, refuse_at, refuses}
+use Rattle.grammar.specs.Machine.{Goal, refuse, tok, all, decs, maybe_fields, maybe_mode, a_brick, a_body, Sort, set as set_sort, stored}
+use Rattle.grammar.proofs.Steps.{items_here, step_at, refuse_at, refuses}
 use Rattle.nodes.proofs.Build.{grown, not_on, token_refused, fewer_is, more_is}
 use Rattle.nodes.proofs.Keep.{keep_many, keep_opt, keep_dec, keep_init, keep_value, keep_fields, keep_mode, keep_body, agree_trans}
 use Rattle.nodes.specs.Made.{at, Made, Way, Refused}
@@ -14,7 +14,7 @@ use Rattle.nodes.specs.declared.Node.{Node}
 use Rattle.nodes.specs.declared.Node.TheVariants as node
 use Rattle.nodes.specs.declared.Parsed.{Parsed}
 use Rattle.nodes.specs.declared.Fault.{Fault}
-use Rattle.nodes.specs.declared.Fault.TheVariants.{Syntax, Deep}
+use Rattle.nodes.specs.declared.Fault.TheVariants.{Syntax}
 use Rattle.declarations.specs.Declaring.{Listing, IsListing, of_listing}
 use Rattle.statements.proofs.Blocks.{BodyMade}
 use Rattle.modules.specs.Bricks.{Storing, of_storing, Head, of_head, IsHead, HeadWay}
@@ -33,15 +33,9 @@ HeadMade d s i used ns ms p = Made 0 Head (IsHead i) (of_head i) (HeadWay d s i)
 
 -- a name and declarations
 module _ (how : Sort) (d : ℕ) (s : List Symbol) (i used : ℕ) where
-  pub no_brick_name : (get_or s i STOP ≡ NAME → ⊥) → Refused (Storing how) d s i (Syntax i)
-  no_brick_name n α = token_refused d NAME (tok SEMI ∷ all (decs how) ∷ tok ENDDATA ∷ α) s i n
-
   module _ (h : i < length s) (q : get_or s i STOP ≡ NAME) where
     name_way : (α : List Goal) → at d (Storing how ++ α) s i ≡ at d (tok SEMI ∷ all (decs how) ∷ tok ENDDATA ∷ α) s (i + 1)
     name_way α = step_at d (Storing how ++ α) (tok SEMI ∷ all (decs how) ∷ tok ENDDATA ∷ α) s i d NAME h q refl refl
-
-    pub no_brick_semi : (get_or s (i + 1) STOP ≡ SEMI → ⊥) → Refused (Storing how) d s i (Syntax (i + 1))
-    no_brick_semi n α = name_way α ∙ token_refused d SEMI (all (decs how) ∷ tok ENDDATA ∷ α) s (i + 1) n
 
     module _ (h' : i + 1 < length s) (q' : get_or s (i + 1) STOP ≡ SEMI) where
       two : i + 1 + 1 ≡ i + 2
@@ -78,9 +72,6 @@ module _ (d : ℕ) (s : List Symbol) (i used : ℕ) (h : i < length s) (q : get_
   data_way : (α : List Goal) → at d (a_brick ∷ α) s i ≡ at d (Storing (set_sort stored) ++ α) s (i + 1)
   data_way α = step_at d (a_brick ∷ α) (Storing (set_sort stored) ++ α) s i d DATA h q refl refl
 
-  pub data_refused : (f : Fault) → Refused (Storing (set_sort stored)) d s (i + 1) f → Refused (a_brick ∷ []) d s i f
-  data_refused f r α = data_way α ∙ r α
-
   pub made_data : (ns ms : List Node) (p : Parsed) → p.used < length ms → StoringMade (set_sort stored) d s (i + 1) used ns ms p → BrickMade d s i used ns (set ms p.used (node.Store (i + 1) p.root)) (record { next = p.next; used = p.used + 1; root = p.used }) × (p.used + 1 + 2 * i < 2 * p.next + used)
   made_data ns ms p r m = (
     grown 0 IsBrick of_brick (Way (a_brick ∷ []) d s i) s i used ns ms p.used p.next (node.Store (i + 1) p.root) r (store (i + 1) m.tree) m.within m.more (omega (arith, m.few)) m.kept
@@ -105,9 +96,6 @@ module _ (d : ℕ) (s : List Symbol) (i used : ℕ) (h : i < length s) (q : get_
   proc_way : (α : List Goal) → at d (a_brick ∷ α) s i ≡ at d (tok NAME ∷ tok LEFT ∷ maybe_fields ∷ tok RIGHT ∷ maybe_mode ∷ behind α) s (i + 1)
   proc_way α = step_at d (a_brick ∷ α) (tok NAME ∷ tok LEFT ∷ maybe_fields ∷ tok RIGHT ∷ maybe_mode ∷ behind α) s i d PROC h q refl refl
 
-  pub no_proc_name : (get_or s (i + 1) STOP ≡ NAME → ⊥) → Refused (a_brick ∷ []) d s i (Syntax (i + 1))
-  no_proc_name n α = proc_way α ∙ token_refused d NAME (tok LEFT ∷ maybe_fields ∷ tok RIGHT ∷ maybe_mode ∷ behind α) s (i + 1) n
-
   module _ (h₁ : i + 1 < length s) (q₁ : get_or s (i + 1) STOP ≡ NAME) where
     one_more : i + 1 + 1 ≡ i + 2
     one_more = omega arith
@@ -122,9 +110,6 @@ module _ (d : ℕ) (s : List Symbol) (i used : ℕ) (h : i < length s) (q : get_
     no_proc_left n α = named_way α ∙ token_refused d LEFT (maybe_fields ∷ tok RIGHT ∷ maybe_mode ∷ behind α) s (i + 2) n
 
     module _ (h₂ : i + 2 < length s) (q₂ : get_or s (i + 2) STOP ≡ LEFT) where
-      pub proc_deep : d ≡ 0 → Refused (a_brick ∷ []) d s i (Deep (i + 2))
-      proc_deep z α = named_way α ∙ sink_at d (tok LEFT ∷ maybe_fields ∷ tok RIGHT ∷ maybe_mode ∷ behind α) (maybe_fields ∷ tok RIGHT ∷ maybe_mode ∷ behind α) s (i + 2) LEFT h₂ q₂ refl (ap fewer z)
-
       module _ (z : 0 < d) where
         left_way : (α : List Goal) → at d (a_brick ∷ α) s i ≡ at (d - 1) (maybe_fields ∷ tok RIGHT ∷ maybe_mode ∷ behind α) s (i + 3)
         left_way α = named_way α ∙ step_at d (tok LEFT ∷ maybe_fields ∷ tok RIGHT ∷ maybe_mode ∷ behind α) (maybe_fields ∷ tok RIGHT ∷ maybe_mode ∷ behind α) s (i + 2) (d - 1) LEFT h₂ q₂ refl (fewer_is d z) ∙ ap (λ (j : ℕ). at (d - 1) (maybe_fields ∷ tok RIGHT ∷ maybe_mode ∷ behind α) s j) two_more
@@ -159,13 +144,7 @@ module _ (d : ℕ) (s : List Symbol) (i used : ℕ) (h : i < length s) (q : get_
 
 -- a procedure
 module _ (d : ℕ) (s : List Symbol) (i used : ℕ) (ns ms : List Node) (p : Parsed) (m : HeadMade d s i used ns ms p) (few : p.used + 2 * i + 3 ≤ 2 * p.next + used) where
-  pub proc_body_refused : (f : Fault) → Refused (a_body ∷ []) d s p.next f → Refused (a_brick ∷ []) d s i f
-  proc_body_refused f r α = m.met α ∙ r (tok ENDPROC ∷ α)
-
   module _ (os : List Node) (b : Parsed) (o : BodyMade d s p.next p.used ms os b) where
-    pub no_endproc : (get_or s b.next STOP ≡ ENDPROC → ⊥) → Refused (a_brick ∷ []) d s i (Syntax b.next)
-    no_endproc n α = m.met α ∙ o.met (tok ENDPROC ∷ α) ∙ token_refused d ENDPROC α s b.next n
-
     pub made_procedure : b.next < length s → get_or s b.next STOP ≡ ENDPROC → b.used < length os → BrickMade d s i used ns (set os b.used (node.Procedure p.root b.root b.next)) (record { next = b.next + 1; used = b.used + 1; root = b.used }) × (b.used + 1 + 2 * i < 2 * (b.next + 1) + used)
     made_procedure h q r = (
       grown 0 IsBrick of_brick (Way (a_brick ∷ []) d s i) s i used ns os b.used (b.next + 1) (node.Procedure p.root b.root b.next) r (procedure (i + 1) (i + 2) m.tree.0 m.tree.1 o.tree b.next) (omega arith) (omega (arith, m.more, o.more)) (omega (arith, few, o.few))

@@ -15,7 +15,7 @@ use Rattle.nodes.specs.declared.Node.{Node}
 use Rattle.nodes.specs.declared.Node.TheVariants as node
 use Rattle.nodes.specs.declared.Parsed.{Parsed}
 use Rattle.nodes.specs.declared.Fault.{Fault}
-use Rattle.nodes.specs.declared.Fault.TheVariants.{Syntax, Deep}
+use Rattle.nodes.specs.declared.Fault.TheVariants.{Syntax}
 use Rattle.modules.specs.Bricks.{brick_firsts, Storing}
 use Rattle.modules.proofs.Bricks.{StoringMade, BrickMade, ResultMade}
 
@@ -73,9 +73,6 @@ module _ (d : ℕ) (s : List Symbol) (i used : ℕ) (h : i < length s) (q : get_
   mode_way : (α : List Goal) → at d (each moditems ∷ α) s i ≡ at d (tok NAME ∷ tok LEFT ∷ the_fields ∷ tok RIGHT ∷ α) s (i + 1)
   mode_way α = step_at d (each moditems ∷ α) (tok NAME ∷ tok LEFT ∷ the_fields ∷ tok RIGHT ∷ α) s i d MODE h q refl refl
 
-  pub no_record_name : (get_or s (i + 1) STOP ≡ NAME → ⊥) → Refused (each moditems ∷ []) d s i (Syntax (i + 1))
-  no_record_name n α = mode_way α ∙ token_refused d NAME (tok LEFT ∷ the_fields ∷ tok RIGHT ∷ α) s (i + 1) n
-
   module _ (h₁ : i + 1 < length s) (q₁ : get_or s (i + 1) STOP ≡ NAME) where
     one_more : i + 1 + 1 ≡ i + 2
     one_more = omega arith
@@ -86,13 +83,7 @@ module _ (d : ℕ) (s : List Symbol) (i used : ℕ) (h : i < length s) (q : get_
     record_way : (α : List Goal) → at d (each moditems ∷ α) s i ≡ at d (tok LEFT ∷ the_fields ∷ tok RIGHT ∷ α) s (i + 2)
     record_way α = mode_way α ∙ step_at d (tok NAME ∷ tok LEFT ∷ the_fields ∷ tok RIGHT ∷ α) (tok LEFT ∷ the_fields ∷ tok RIGHT ∷ α) s (i + 1) d NAME h₁ q₁ refl refl ∙ ap (λ (j : ℕ). at d (tok LEFT ∷ the_fields ∷ tok RIGHT ∷ α) s j) one_more
 
-    pub no_record_left : (get_or s (i + 2) STOP ≡ LEFT → ⊥) → Refused (each moditems ∷ []) d s i (Syntax (i + 2))
-    no_record_left n α = record_way α ∙ token_refused d LEFT (the_fields ∷ tok RIGHT ∷ α) s (i + 2) n
-
     module _ (h₂ : i + 2 < length s) (q₂ : get_or s (i + 2) STOP ≡ LEFT) where
-      pub record_deep : d ≡ 0 → Refused (each moditems ∷ []) d s i (Deep (i + 2))
-      record_deep z α = record_way α ∙ sink_at d (tok LEFT ∷ the_fields ∷ tok RIGHT ∷ α) (the_fields ∷ tok RIGHT ∷ α) s (i + 2) LEFT h₂ q₂ refl (ap fewer z)
-
       module _ (z : 0 < d) where
         inside_way : (α : List Goal) → at d (each moditems ∷ α) s i ≡ at (d - 1) (the_fields ∷ tok RIGHT ∷ α) s (i + 3)
         inside_way α = record_way α ∙ step_at d (tok LEFT ∷ the_fields ∷ tok RIGHT ∷ α) (the_fields ∷ tok RIGHT ∷ α) s (i + 2) (d - 1) LEFT h₂ q₂ refl (fewer_is d z) ∙ ap (λ (j : ℕ). at (d - 1) (the_fields ∷ tok RIGHT ∷ α) s j) two_more
@@ -144,13 +135,7 @@ module _ (d : ℕ) (s : List Symbol) (i used : ℕ) (h : i < length s) (q : get_
       ext_proc_way : (α : List Goal) → at d (each moditems ∷ α) s i ≡ at d (tok LEFT ∷ maybe_modes ∷ tok RIGHT ∷ maybe_mode ∷ all (declareds unset) ∷ α) s (i + 2)
       ext_proc_way α = ext_way α ∙ step_at d (an_external ∷ α) (tok LEFT ∷ maybe_modes ∷ tok RIGHT ∷ maybe_mode ∷ all (declareds unset) ∷ α) s (i + 1) d PROC h₁ q₁ refl refl ∙ ap (λ (j : ℕ). at d (tok LEFT ∷ maybe_modes ∷ tok RIGHT ∷ maybe_mode ∷ all (declareds unset) ∷ α) s j) two
 
-      pub no_ext_left : (get_or s (i + 2) STOP ≡ LEFT → ⊥) → Refused (each moditems ∷ []) d s i (Syntax (i + 2))
-      no_ext_left n α = ext_proc_way α ∙ token_refused d LEFT (maybe_modes ∷ tok RIGHT ∷ maybe_mode ∷ all (declareds unset) ∷ α) s (i + 2) n
-
       module _ (h₂ : i + 2 < length s) (q₂ : get_or s (i + 2) STOP ≡ LEFT) where
-        pub ext_deep : d ≡ 0 → Refused (each moditems ∷ []) d s i (Deep (i + 2))
-        ext_deep z α = ext_proc_way α ∙ sink_at d (tok LEFT ∷ maybe_modes ∷ tok RIGHT ∷ maybe_mode ∷ all (declareds unset) ∷ α) (maybe_modes ∷ tok RIGHT ∷ maybe_mode ∷ all (declareds unset) ∷ α) s (i + 2) LEFT h₂ q₂ refl (ap fewer z)
-
         module _ (z : 0 < d) where
           ext_left_way : (α : List Goal) → at d (each moditems ∷ α) s i ≡ at (d - 1) (maybe_modes ∷ tok RIGHT ∷ maybe_mode ∷ all (declareds unset) ∷ α) s (i + 3)
           ext_left_way α = ext_proc_way α ∙ step_at d (tok LEFT ∷ maybe_modes ∷ tok RIGHT ∷ maybe_mode ∷ all (declareds unset) ∷ α) (maybe_modes ∷ tok RIGHT ∷ maybe_mode ∷ all (declareds unset) ∷ α) s (i + 2) (d - 1) LEFT h₂ q₂ refl (fewer_is d z) ∙ ap (λ (j : ℕ). at (d - 1) (maybe_modes ∷ tok RIGHT ∷ maybe_mode ∷ all (declareds unset) ∷ α) s j) three

@@ -83,27 +83,17 @@ fn storing<D: Declares>(of: D, from: Spot<'_>, nodes: &mut [Node]) -> Result<Par
     requires room { Room 0 from nodes.old }
     ensures { ReadsTo 0 (Many (Dec (Listing D.sort))) (IsMany (IsDec (IsListing D.sort))) (of_storing D.sort from.entry.next) (Storing D.sort) from.entry nodes.old nodes.new result }
 {
-    if from.peek(from.next) != Symbol::Name {
-        return Err(Fault::Syntax(from.next));
-    }
-    if from.peek(from.next + 1) != Symbol::Semi {
-        return Err(Fault::Syntax(from.next + 1));
-    }
-    let d = decs(
-        of,
-        Spot {
-            next: from.next + 2,
-            ..from
-        },
-        nodes,
-    )?;
-    if from.peek(d.next) != Symbol::Enddata {
-        return Err(Fault::Syntax(d.next));
-    }
+    from.expect(from.next, Symbol::Name)?;
+    from.expect(from.next + 1, Symbol::Semi)?;
+    let inside = Spot {
+        next: from.next + 2,
+        ..from
+    };
+    let d = decs(of, inside, nodes)?;
+    from.expect(d.next, Symbol::Enddata)?;
     Ok(Parsed {
         next: d.next + 1,
-        used: d.used,
-        root: d.root,
+        ..d
     })
 }
 
@@ -114,14 +104,11 @@ fn data_brick(from: Spot<'_>, nodes: &mut [Node]) -> Result<Parsed, Fault>
     requires room { Room 0 from nodes.old }
     ensures { ReadsFewer 0 Brick IsBrick of_brick (Way (a_brick ∷ [])) (Refused (a_brick ∷ [])) from.entry nodes.old nodes.new result }
 {
-    let d = storing(
-        Stored,
-        Spot {
-            next: from.next + 1,
-            ..from
-        },
-        nodes,
-    )?;
+    let behind = Spot {
+        next: from.next + 1,
+        ..from
+    };
+    let d = storing(Stored, behind, nodes)?;
     nodes[d.used] = Node::Store(from.next + 1, d.root);
     Ok(Parsed {
         next: d.next,
@@ -137,37 +124,23 @@ fn heading(from: Spot<'_>, nodes: &mut [Node]) -> Result<Parsed, Fault>
     requires room { Room 0 from nodes.old }
     ensures { MatchResult result (λ p. Made 0 Head (IsHead from.entry.next) (of_head from.entry.next) (HeadWay from.entry.depth from.entry.symbols.now from.entry.next) from.entry.symbols.now from.entry.next from.entry.used nodes.old nodes.new p × (p.used + 2 * from.entry.next + 3 ≤ 2 * p.next + from.entry.used)) (λ f. Refused (a_brick ∷ []) from.entry.depth from.entry.symbols.now from.entry.next f) }
 {
-    if from.peek(from.next + 1) != Symbol::Name {
-        return Err(Fault::Syntax(from.next + 1));
-    }
-    if from.peek(from.next + 2) != Symbol::Left {
-        return Err(Fault::Syntax(from.next + 2));
-    }
-    if from.depth == 0 {
-        return Err(Fault::Deep(from.next + 2));
-    }
-    let f = maybe_fields(
-        Spot {
-            next: from.next + 3,
-            depth: from.depth - 1,
-            ..from
-        },
-        nodes,
-    )?;
-    if from.peek(f.next) != Symbol::Right {
-        return Err(Fault::Syntax(f.next));
-    }
-    let m = maybe_mode(
-        Spot {
-            next: f.next + 1,
-            used: f.used,
-            ..from
-        },
-        nodes,
-    )?;
-    if from.peek(m.next) != Symbol::Semi {
-        return Err(Fault::Syntax(m.next));
-    }
+    from.expect(from.next + 1, Symbol::Name)?;
+    from.expect(from.next + 2, Symbol::Left)?;
+    let depth = from.deeper(from.next + 2)?;
+    let inside = Spot {
+        next: from.next + 3,
+        depth,
+        ..from
+    };
+    let f = maybe_fields(inside, nodes)?;
+    from.expect(f.next, Symbol::Right)?;
+    let behind = Spot {
+        next: f.next + 1,
+        used: f.used,
+        ..from
+    };
+    let m = maybe_mode(behind, nodes)?;
+    from.expect(m.next, Symbol::Semi)?;
     nodes[m.used] = Node::Heading(from.next + 1, from.next + 2, f.root, m.root);
     Ok(Parsed {
         next: m.next + 1,
@@ -184,17 +157,13 @@ fn procedure(from: Spot<'_>, nodes: &mut [Node]) -> Result<Parsed, Fault>
     ensures { ReadsFewer 0 Brick IsBrick of_brick (Way (a_brick ∷ [])) (Refused (a_brick ∷ [])) from.entry nodes.old nodes.new result }
 {
     let h = heading(from, nodes)?;
-    let b = body(
-        Spot {
-            next: h.next,
-            used: h.used,
-            ..from
-        },
-        nodes,
-    )?;
-    if from.peek(b.next) != Symbol::Endproc {
-        return Err(Fault::Syntax(b.next));
-    }
+    let behind = Spot {
+        next: h.next,
+        used: h.used,
+        ..from
+    };
+    let b = body(behind, nodes)?;
+    from.expect(b.next, Symbol::Endproc)?;
     nodes[b.used] = Node::Procedure(h.root, b.root, b.next);
     Ok(Parsed {
         next: b.next + 1,
@@ -224,40 +193,27 @@ fn external_procs(from: Spot<'_>, nodes: &mut [Node]) -> Result<Parsed, Fault>
     requires room { Room 1 from nodes.old }
     ensures { ReadsTo 1 Moditem IsModitem of_moditem (each moditems ∷ []) from.entry nodes.old nodes.new result }
 {
-    if from.peek(from.next + 2) != Symbol::Left {
-        return Err(Fault::Syntax(from.next + 2));
-    }
-    if from.depth == 0 {
-        return Err(Fault::Deep(from.next + 2));
-    }
-    let p = maybe_modes(
-        Spot {
-            next: from.next + 3,
-            depth: from.depth - 1,
-            ..from
-        },
-        nodes,
-    )?;
-    if from.peek(p.next) != Symbol::Right {
-        return Err(Fault::Syntax(p.next));
-    }
-    let m = maybe_mode(
-        Spot {
-            next: p.next + 1,
-            used: p.used,
-            ..from
-        },
-        nodes,
-    )?;
-    let n = names(
-        Described,
-        Spot {
-            next: m.next,
-            used: m.used,
-            ..from
-        },
-        nodes,
-    )?;
+    from.expect(from.next + 2, Symbol::Left)?;
+    let depth = from.deeper(from.next + 2)?;
+    let inside = Spot {
+        next: from.next + 3,
+        depth,
+        ..from
+    };
+    let p = maybe_modes(inside, nodes)?;
+    from.expect(p.next, Symbol::Right)?;
+    let result = Spot {
+        next: p.next + 1,
+        used: p.used,
+        ..from
+    };
+    let m = maybe_mode(result, nodes)?;
+    let behind = Spot {
+        next: m.next,
+        used: m.used,
+        ..from
+    };
+    let n = names(Described, behind, nodes)?;
     nodes[n.used] = Node::ExternalProcs(from.next + 2, p.root, m.root, n.root);
     Ok(Parsed {
         next: n.next,
@@ -274,14 +230,11 @@ fn external_store(from: Spot<'_>, nodes: &mut [Node]) -> Result<Parsed, Fault>
     requires room { Room 1 from nodes.old }
     ensures { ReadsTo 1 Moditem IsModitem of_moditem (each moditems ∷ []) from.entry nodes.old nodes.new result }
 {
-    let d = storing(
-        Described,
-        Spot {
-            next: from.next + 2,
-            ..from
-        },
-        nodes,
-    )?;
+    let behind = Spot {
+        next: from.next + 2,
+        ..from
+    };
+    let d = storing(Described, behind, nodes)?;
     nodes[d.used] = Node::ExternalStore(from.next + 2, d.root);
     Ok(Parsed {
         next: d.next,
@@ -311,26 +264,16 @@ fn record_mode(from: Spot<'_>, nodes: &mut [Node]) -> Result<Parsed, Fault>
     requires room { Room 1 from nodes.old }
     ensures { ReadsTo 1 Moditem IsModitem of_moditem (each moditems ∷ []) from.entry nodes.old nodes.new result }
 {
-    if from.peek(from.next + 1) != Symbol::Name {
-        return Err(Fault::Syntax(from.next + 1));
-    }
-    if from.peek(from.next + 2) != Symbol::Left {
-        return Err(Fault::Syntax(from.next + 2));
-    }
-    if from.depth == 0 {
-        return Err(Fault::Deep(from.next + 2));
-    }
-    let f = fields(
-        Spot {
-            next: from.next + 3,
-            depth: from.depth - 1,
-            ..from
-        },
-        nodes,
-    )?;
-    if from.peek(f.next) != Symbol::Right {
-        return Err(Fault::Syntax(f.next));
-    }
+    from.expect(from.next + 1, Symbol::Name)?;
+    from.expect(from.next + 2, Symbol::Left)?;
+    let depth = from.deeper(from.next + 2)?;
+    let inside = Spot {
+        next: from.next + 3,
+        depth,
+        ..from
+    };
+    let f = fields(inside, nodes)?;
+    from.expect(f.next, Symbol::Right)?;
     nodes[f.used] = Node::RecordMode(from.next + 1, from.next + 2, f.root);
     Ok(Parsed {
         next: f.next + 1,
@@ -346,13 +289,11 @@ fn entered(from: Spot<'_>, nodes: &mut [Node]) -> Result<Parsed, Fault>
     requires room { Room 1 from nodes.old }
     ensures { ReadsTo 1 Moditem IsModitem of_moditem (each moditems ∷ []) from.entry nodes.old nodes.new result }
 {
-    let b = brick(
-        Spot {
-            next: from.next + 1,
-            ..from
-        },
-        nodes,
-    )?;
+    let behind = Spot {
+        next: from.next + 1,
+        ..from
+    };
+    let b = brick(behind, nodes)?;
     nodes[b.used] = Node::Ent(b.root);
     Ok(Parsed {
         next: b.next,

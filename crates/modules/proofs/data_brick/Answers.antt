@@ -1,12 +1,6 @@
 use Rattle.std.proofs.Common.{arith}
-use Rattle.std.proofs.lemmas.Result.{err_from_is_err_and}
-use Rattle.modules.proofs.Bricks.{data_refused, made_data}
+use Rattle.modules.proofs.Bricks.{made_data}
 use Rattle.modules.proofs.data_brick.Goals as goal
-
-pub returns-in_err-d : goal.returns-in_err-d
-returns-in_err-d c =
-    let p = err_from_is_err_and c.from_residual.result c.from_residual.ensures.1 in
-    rw (p.1, p.2) (data_refused c.args.from.depth c.args.from.symbols.now c.args.from.next c.args.from.used c.requires.there c.requires.opening _ c.in_err-d.ensures)
 
 pub returns : goal.returns
 returns c =

@@ -1,76 +1,34 @@
-use Rattle.std.proofs.Common.{sym, refl, ◌∙◌, arith}
+use Rattle.std.proofs.Common.{refl, arith}
 use Rattle.std.proofs.lemmas.Result.{err_from_is_err_and}
 use Rattle.grammar.specs.Symbols.{NAME, LEFT, RIGHT}
-use Rattle.nodes.proofs.Build.{far}
-use Rattle.modules.proofs.Moditems.{no_record_name, no_record_left, record_deep, components_refused, no_record_right, made_record}
-use Rattle.grammar.proofs.Tests.{differs, agrees}
+use Rattle.nodes.proofs.Build.{inside}
+use Rattle.modules.proofs.Moditems.{components_refused, no_record_right, made_record}
 use Rattle.modules.proofs.record_mode.Goals as goal
-
-pub returns-then-ne : goal.returns-then-ne
-returns-then-ne c =
-    let u = c.if-ne.ensures in
-    no_record_name c.args.from.depth c.args.from.symbols.now c.args.from.next c.args.from.used c.requires.there c.requires.opening (λ e. differs _ _ u (c.peek.ensures.is ∙ e))
-
-pub returns-then-ne-2 : goal.returns-then-ne-2
-returns-then-ne-2 c =
-    let u = c.if-ne.ensures in
-    let ue = agrees _ _ u in
-    let uh = c.peek.ensures.there (far NAME _ refl ue) in
-    let uq = sym c.peek.ensures.is ∙ ue in
-    let w = c.if-ne-2.ensures in
-    no_record_left c.args.from.depth c.args.from.symbols.now c.args.from.next c.args.from.used c.requires.there c.requires.opening uh uq (λ e. differs _ _ w (c.peek-2.ensures.is ∙ e))
-
-pub returns-then-from-eq0 : goal.returns-then-from-eq0
-returns-then-from-eq0 c =
-    let u = c.if-ne.ensures in
-    let ue = agrees _ _ u in
-    let uh = c.peek.ensures.there (far NAME _ refl ue) in
-    let uq = sym c.peek.ensures.is ∙ ue in
-    let w = c.if-ne-2.ensures in
-    let we = agrees _ _ w in
-    let wh = c.peek-2.ensures.there (far LEFT _ refl we) in
-    let wq = sym c.peek-2.ensures.is ∙ we in
-    record_deep c.args.from.depth c.args.from.symbols.now c.args.from.next c.args.from.used c.requires.there c.requires.opening uh uq wh wq c.if-from-eq0.true
 
 pub returns-in_err-f : goal.returns-in_err-f
 returns-in_err-f c =
-    let p = err_from_is_err_and c.from_residual.result c.from_residual.ensures.1 in
-    let u = c.if-ne.ensures in
-    let ue = agrees _ _ u in
-    let uh = c.peek.ensures.there (far NAME _ refl ue) in
-    let uq = sym c.peek.ensures.is ∙ ue in
-    let w = c.if-ne-2.ensures in
-    let we = agrees _ _ w in
-    let wh = c.peek-2.ensures.there (far LEFT _ refl we) in
-    let wq = sym c.peek-2.ensures.is ∙ we in
-    rw (p.1, p.2) (components_refused c.args.from.depth c.args.from.symbols.now c.args.from.next c.args.from.used c.requires.there c.requires.opening uh uq wh wq (omega arith) _ c.in_err-f.ensures)
+    let p = err_from_is_err_and c.from_residual-in_err-f.result c.from_residual-in_err-f.ensures.1 in
+    let uq = c.in_ok-expect.ensures in
+    let wq = c.in_ok-expect-2.ensures in
+    let z = c.in_ok-depth.ensures in
+    rw (p.1, p.2) (components_refused c.args.from.depth c.args.from.symbols.now c.args.from.next c.args.from.used c.requires.there c.requires.opening (inside _ _ NAME refl uq) uq (inside _ _ LEFT refl wq) wq z.1 _ (rw z.0 at c.in_err-f.ensures))
 
-pub returns-then-ne-3 : goal.returns-then-ne-3
-returns-then-ne-3 c =
-    let u = c.if-ne.ensures in
-    let ue = agrees _ _ u in
-    let uh = c.peek.ensures.there (far NAME _ refl ue) in
-    let uq = sym c.peek.ensures.is ∙ ue in
-    let w = c.if-ne-2.ensures in
-    let we = agrees _ _ w in
-    let wh = c.peek-2.ensures.there (far LEFT _ refl we) in
-    let wq = sym c.peek-2.ensures.is ∙ we in
-    let x = c.if-ne-3.ensures in
-    no_record_right c.args.from.depth c.args.from.symbols.now c.args.from.next c.args.from.used c.requires.there c.requires.opening uh uq wh wq (omega arith) _ _ c.in_ok-f.f c.in_ok-f.ensures (λ e. differs _ _ x (c.peek-3.ensures.is ∙ e))
+pub returns-in_err-expect-3 : goal.returns-in_err-expect-3
+returns-in_err-expect-3 c =
+    let p = err_from_is_err_and c.from_residual-in_err-expect-3.result c.from_residual-in_err-expect-3.ensures.1 in
+    let uq = c.in_ok-expect.ensures in
+    let wq = c.in_ok-expect-2.ensures in
+    let z = c.in_ok-depth.ensures in
+    let m = rw z.0 at c.in_ok-f.ensures in
+    let e = c.in_err-expect-3.ensures in
+    rw (p.1, p.2, e.0) (no_record_right c.args.from.depth c.args.from.symbols.now c.args.from.next c.args.from.used c.requires.there c.requires.opening (inside _ _ NAME refl uq) uq (inside _ _ LEFT refl wq) wq z.1 _ _ c.in_ok-f.f m e.1)
 
 pub returns : goal.returns
 returns c =
-    let u = c.if-ne.ensures in
-    let ue = agrees _ _ u in
-    let uh = c.peek.ensures.there (far NAME _ refl ue) in
-    let uq = sym c.peek.ensures.is ∙ ue in
-    let w = c.if-ne-2.ensures in
-    let we = agrees _ _ w in
-    let wh = c.peek-2.ensures.there (far LEFT _ refl we) in
-    let wq = sym c.peek-2.ensures.is ∙ we in
-    let x = c.if-ne-3.ensures in
-    let xe = agrees _ _ x in
-    let xh = c.peek-3.ensures.there (far RIGHT _ refl xe) in
-    let xq = sym c.peek-3.ensures.is ∙ xe in
-    let m = c.in_ok-f.ensures in
-    made_record c.args.from.depth c.args.from.symbols.now c.args.from.next c.args.from.used c.requires.there c.requires.opening uh uq wh wq (omega arith) _ _ c.in_ok-f.f c.in_ok-f.ensures xh xq (omega (arith, m.few, xh, c.requires.room))
+    let uq = c.in_ok-expect.ensures in
+    let wq = c.in_ok-expect-2.ensures in
+    let z = c.in_ok-depth.ensures in
+    let m = rw z.0 at c.in_ok-f.ensures in
+    let xq = c.in_ok-expect-3.ensures in
+    let xh = inside _ _ RIGHT refl xq in
+    made_record c.args.from.depth c.args.from.symbols.now c.args.from.next c.args.from.used c.requires.there c.requires.opening (inside _ _ NAME refl uq) uq (inside _ _ LEFT refl wq) wq z.1 _ _ c.in_ok-f.f m xh xq (omega (arith, m.few, xh, c.requires.room))
