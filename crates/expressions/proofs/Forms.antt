@@ -4,16 +4,16 @@ use Rattle.grammar.specs.Symbols.{STOP, NAME, INTEGER, TEXT, LEFT, RIGHT, COMMA,
 use Rattle.grammar.specs.declared.Symbol.{Symbol}
 use Rattle.grammar.specs.Trees.{Token, token, key, Expr, Primary, integer, text, variable, call, call_on, paren, Variable, name, element, component, Exprs, first, comma, of_expr, of_exprs, of_primary, of_variable}
 use Rattle.grammar.specs.Sentences.{items}
-use Rattle.grammar.specs.Machine.{Goal, refuse, goes, mapped, tok, rest, exprs, an_expr, a_primary, named, arguments, argued, closed_on, parts, Stand, inner, start, right, argument, behind, Seen, just_name, one_index, longer, seen, indexed, next_goal, fewer}
-use Rattle.grammar.proofs.Steps.{items_here, step_at, sink_at, refuse_at, refuses, skip_at, followed_at}
+use Rattle.grammar.specs.Machine.{Goal, refuse, goes, mapped, tok, rest, exprs, an_expr, a_primary, named, arguments, argued, closed_on, parts, Stand, inner, start, right, argument, behind, Seen, just_name, one_index, longer, seen, indexed, next_goal}
+use Rattle.grammar.proofs.Steps.{items_here, step_at, refuse_at, refuses, skip_at, followed_at}
 use Rattle.nodes.proofs.Keep.{keep_expr, keep_exprs, keep_variable, agree_trans}
-use Rattle.nodes.specs.Made.{at, Made, Way, Refused, answer, Ended, FormWay, FormRefused, NotCalled, Opening, by_name, by_val, so_far, PartsWay, VariableWay, VariableRefused, Counted, ArgsWay}
+use Rattle.nodes.specs.Made.{at, Made, Way, Refused, answer, Ended, FormWay, FormRefused, NotCalled, Opening, by_name, by_val, so_far, PartsWay, VariableWay, VariableRefused, ArgsWay}
 use Rattle.nodes.specs.Nodes.{At, IsExpr, IsExprs, IsPrimary, IsVariable}
 use Rattle.nodes.specs.declared.Node.{Node}
 use Rattle.nodes.specs.declared.Node.TheVariants.{Integer, Text, Name, Element, Component, Call, CallOn, Paren, Also}
 use Rattle.nodes.specs.declared.Parsed.{Parsed}
 use Rattle.nodes.specs.declared.Fault.{Fault}
-use Rattle.nodes.specs.declared.Fault.TheVariants.{Syntax, Deep}
+use Rattle.nodes.specs.declared.Fault.TheVariants.{Syntax}
 use Rattle.nodes.proofs.Build.{not_on, fewer_is, more_is, alike, grown}
 
 -- brackets
@@ -33,9 +33,6 @@ module _ (d : ℕ) (s : List Symbol) where
   module _ (i : ℕ) (h : i < length s) (q : get_or s i STOP ≡ LEFT) where
     open_way : 0 < d → (α : List Goal) → at d (Brackets ++ α) s i ≡ at (d - 1) (an_expr ∷ tok RIGHT ∷ α) s (i + 1)
     open_way z α = step_at d (Brackets ++ α) (an_expr ∷ tok RIGHT ∷ α) s i (d - 1) LEFT h q refl (fewer_is d z)
-
-    pub brackets_deep : d ≡ 0 → Refused Brackets d s i (Deep i)
-    brackets_deep z α = sink_at d (Brackets ++ α) (an_expr ∷ tok RIGHT ∷ α) s i LEFT h q refl (ap fewer z)
 
     pub brackets_refused : 0 < d → (f : Fault) → Refused (an_expr ∷ []) (d - 1) s (i + 1) f → Refused Brackets d s i f
     brackets_refused z f r α = open_way z α ∙ r (tok RIGHT ∷ α)
@@ -165,9 +162,6 @@ module _ (b : Opening) (d : ℕ) (s : List Symbol) (i used : ℕ) (es ns : List 
   pub variable_ends : (get_or s p.next STOP ≡ LEFT → ⊥) → (get_or s p.next STOP ≡ DOT → ⊥) → VariableEnded b d s i used es ns p
   variable_ends x y = record { within = m.within; more = m.more; few = m.few; below = m.below; kept = m.kept; tree = m.tree; is = m.is; text = m.text; met = (m.met.0, (x, y)) }
 
-  pub counts : Counted s i used p
-  counts = record { within = m.within; more = m.more; few = omega (arith, m.few); below = m.below }
-
   module _ (h : p.next < length s) (q : get_or s p.next STOP ≡ LEFT) where
     pub left_refused : (f : Fault) → Refused Brackets d s p.next f → VariableRefused b d s i f
     left_refused f r w α = m.met.0 w α ∙ index_way d s p.next (so_far b m.tree) m.met.1 h q w α ∙ r (parts w ∷ α)
@@ -202,9 +196,6 @@ module _ (d : ℕ) (s : List Symbol) (i used : ℕ) (ns : List Node) (h : i < le
 
   -- a bracket behind the name
   module _ (h' : i + 1 < length s) (q' : get_or s (i + 1) STOP ≡ LEFT) where
-    pub called_deep : d ≡ 0 → FormRefused d s i (Deep (i + 1))
-    called_deep z w α = sink_at d (named w ∷ α) (arguments w ∷ α) s (i + 1) LEFT h' q' refl (ap fewer z)
-
     two : i + 1 + 1 ≡ i + 2
     two = omega arith
 

@@ -111,9 +111,6 @@ monads_end s i n h z = by (cases_lt n (length (drop i s)))
     by (inl l) = ap (among monadics) (sym (get_or-drop i s n STOP)) ∙ ap (λ (k : ℕ). among monadics (get_or (drop i s) k STOP)) e ∙ prefix_len_stops (among monadics) (drop i s) STOP (omega (arith, e, l))
     by (inr l) = ap (among monadics) (get_or_past s (i + n) STOP (omega (arith, g, l)))
 
-pub no_operator : (c : Symbol) → among monadics c ≡ true → c ≡ STOP → ⊥
-no_operator c h e = clash h (ap (among monadics) e)
-
 -- a term without an operator
 plain_move : (c : Symbol) → among monadics c ≡ false → at_term c ≡ mapped primary (at_primary c)
 plain_move c h =
