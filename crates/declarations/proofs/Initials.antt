@@ -58,9 +58,6 @@ module _ (d : ℕ) (s : List Symbol) (i used : ℕ) (ns : List Node) (h : i < le
     sign_way : (α : List Goal) → at d (a_value ∷ α) s i ≡ at d (tok INTEGER ∷ α) s (i + 1)
     sign_way α = let w = signs (λ c. (step_to (a_value ∷ α) c ≡ some (tok INTEGER ∷ α)) × (level d c ≡ some d)) (refl, refl) (refl, refl) (get_or s i STOP) q in step_at d (a_value ∷ α) (tok INTEGER ∷ α) s i d (get_or s i STOP) h refl w.0 w.1
 
-    pub signed_refused : (get_or s (i + 1) STOP ≡ INTEGER → ⊥) → Refused (a_value ∷ []) d s i (Syntax (i + 1))
-    signed_refused n α = sign_way α ∙ refuse_at d (tok INTEGER ∷ α) s (i + 1) refl (refuses (tok INTEGER) α (get_or s (i + 1) STOP) (not_on (get_or s (i + 1) STOP) INTEGER _ _ refuse n))
-
     module _ (h' : i + 1 < length s) (q' : get_or s (i + 1) STOP ≡ INTEGER) (r : used < length ns) where
       made_sign : (n : Node) (t : Value) → ((ms : List Node) → At ms used n → IsValue t ms used) → ((v : List Token) → mark (get_or s i STOP) i ∷ token INTEGER (i + 1) ∷ v ≡ of_value t v) → ValueMade d s i used ns (set ns used n) (record { next = i + 2; used = used + 1; root = used })
       made_sign n t is e =
@@ -75,9 +72,6 @@ module _ (d : ℕ) (s : List Symbol) (i used : ℕ) (ns : List Node) (h : i < le
       made_minus n = made_sign (node.MinusSigned i (i + 1)) (minus_signed i (i + 1)) (λ ms a. a) (λ v. ap (λ (c : Symbol). mark c i ∷ token INTEGER (i + 1) ∷ v) (signs (λ c. (c ≡ PLUS → ⊥) → c ≡ MINUS) (λ x. absurd (x refl)) (λ x. refl) (get_or s i STOP) q n))
 
   module _ (q : get_or s i STOP ≡ LEFT) where
-    pub list_deep : d ≡ 0 → Refused (a_value ∷ []) d s i (Deep i)
-    list_deep z α = sink_at d (a_value ∷ α) (maybe_values ∷ tok RIGHT ∷ α) s i LEFT h q refl (ap fewer z)
-
     module _ (z : 0 < d) where
       list_way : (α : List Goal) → at d (a_value ∷ α) s i ≡ at (d - 1) (maybe_values ∷ tok RIGHT ∷ α) s (i + 1)
       list_way α = step_at d (a_value ∷ α) (maybe_values ∷ tok RIGHT ∷ α) s i (d - 1) LEFT h q refl (fewer_is d z)

@@ -1,13 +1,13 @@
 -- Declared names with their initial values, step by step. Assumes nothing.
-use Rattle.std.proofs.Common.{◌≡◌, ℕ, zero, suc, ◌+◌, ◌*◌, ◌<◌, Bool, true, false, eqb, List, [], ◌∷◌, length, get_or, drop, set, sym, refl, ap, ◌∙◌, subst, arith}
-use Rattle.grammar.specs.Symbols.{code, same, same_true, STOP, NAME, BECOMES}
+use Rattle.std.proofs.Common.{◌≡◌, ℕ, ◌+◌, ◌*◌, ◌<◌, Bool, true, false, List, [], ◌∷◌, length, get_or, drop, set, sym, refl, ap, ◌∙◌, subst, arith}
+use Rattle.grammar.specs.Symbols.{same, same_true, STOP, NAME, BECOMES}
 use Rattle.grammar.specs.declared.Symbol.{Symbol}
 use Rattle.grammar.specs.Trees.{Token, token, key, Opt, none, some, Many, one, more, Init, plain, given, of_init, of_many, of_name}
 use Rattle.grammar.specs.Sentences.{items}
-use Rattle.grammar.specs.Machine.{Goal, Forest, Move, refuse, each, declareds, unset, set as set_sort, Setting, stored, inblock, Initial, given_on, chain, linked, uses, value, a_value, an_expr, a_term, links_on, named, inner, at_value, at_expr, taken, onto_stack, step, done, is_some, pair, void, of_initial}
+use Rattle.grammar.specs.Machine.{Goal, Forest, Move, each, declareds, unset, set as set_sort, Setting, stored, inblock, Initial, given_on, chain, linked, uses, value, a_value, an_expr, a_term, links_on, named, inner, at_value, at_expr, taken, onto_stack, step, done, is_some, pair, void, of_initial}
 use Rattle.grammar.proofs.Expressions.{on_not}
-use Rattle.grammar.proofs.Steps.{items_here, step_at, refuse_at, refuses, like_at, skip_at, followed_at, expr_at, mapped_on}
-use Rattle.nodes.proofs.Build.{grown, not_on, far, inside}
+use Rattle.grammar.proofs.Steps.{items_here, step_at, like_at, skip_at, followed_at, expr_at, mapped_on}
+use Rattle.nodes.proofs.Build.{grown, not_on, inside}
 use Rattle.nodes.proofs.Keep.{keep_name, keep_many, agree_set, at_set, agree_trans}
 use Rattle.nodes.specs.Made.{at, Made, Way, Refused, Shares, of_shared, NamesWay}
 use Rattle.nodes.specs.Nodes.{Agree, IsMany, IsName, IsInit}
@@ -18,7 +18,6 @@ use Rattle.nodes.specs.declared.Node.{Node}
 use Rattle.nodes.specs.declared.Node.TheVariants as node
 use Rattle.nodes.specs.declared.Parsed.{Parsed}
 use Rattle.nodes.specs.declared.Fault.{Fault}
-use Rattle.nodes.specs.declared.Fault.TheVariants.{Syntax}
 
 abbrev pub NamesMade : List Symbol → ℕ → ℕ → List Node → List Node → Parsed → Type 0
 NamesMade s i used ns ms p = Made 0 (Many ℕ) (IsMany IsName) of_shared (NamesWay s i) s i used ns ms p
@@ -84,9 +83,6 @@ abbrev pub InitMade : (v : Setting) → ℕ → List Symbol → ℕ → ℕ → 
 InitMade v d s i used ns ms p = Made 0 (Init (Initial v)) (IsInit (IsInitial v)) (of_init (of_initial v)) (Way (each (declareds (set_sort v)) ∷ []) d s i) s i used ns ms p
 
 module _ (v : Setting) (d : ℕ) (s : List Symbol) (i used : ℕ) where
-  pub no_name : (get_or s i STOP ≡ NAME → ⊥) → Refused (each (declareds (set_sort v)) ∷ []) d s i (Syntax i)
-  no_name n α = refuse_at d (each (declareds (set_sort v)) ∷ α) s i refl (refuses (each (declareds (set_sort v))) α (get_or s i STOP) (not_on (get_or s i STOP) NAME _ _ refuse n))
-
   pub made_plain : (ns : List Node) → i < length s → get_or s i STOP ≡ NAME → (get_or s (i + 1) STOP ≡ BECOMES → ⊥) → used < length ns → InitMade v d s i used ns (set ns used (node.Plain i)) (record { next = i + 1; used = used + 1; root = used })
   made_plain ns h q n r = grown 0 (IsInit (IsInitial v)) (of_init (of_initial v)) (Way (each (declareds (set_sort v)) ∷ []) d s i) s i used ns ns used (i + 1) (node.Plain i) r (plain i) (omega arith) (omega arith) (omega arith) (λ j l. refl) (λ g a. a) (items_here s i NAME h q) (λ α. step_at d (each (declareds (set_sort v)) ∷ α) (given_on v ∷ α) s i d NAME h q refl refl ∙ skip_at d (given_on v) α s (i + 1) none none refl (not_on (get_or s (i + 1) STOP) BECOMES _ _ _ n))
 
@@ -107,8 +103,5 @@ module _ (v : Setting) (d : ℕ) (s : List Symbol) (i used : ℕ) where
 
 -- a name without a value
 module _ (d : ℕ) (s : List Symbol) (i used : ℕ) where
-  pub bare_refused : (get_or s i STOP ≡ NAME → ⊥) → Refused (each (declareds unset) ∷ []) d s i (Syntax i)
-  bare_refused n α = refuse_at d (each (declareds unset) ∷ α) s i refl (refuses (each (declareds unset)) α (get_or s i STOP) (not_on (get_or s i STOP) NAME _ _ refuse n))
-
   pub made_bare : (ns : List Node) → i < length s → get_or s i STOP ≡ NAME → used < length ns → Made 0 ℕ IsName of_name (Way (each (declareds unset) ∷ []) d s i) s i used ns (set ns used (node.Name i)) (record { next = i + 1; used = used + 1; root = used })
   made_bare ns h q r = grown 0 IsName of_name (Way (each (declareds unset) ∷ []) d s i) s i used ns ns used (i + 1) (node.Name i) r i (omega arith) (omega arith) (omega arith) (λ j l. refl) (λ g a. a) (items_here s i NAME h q) (λ α. step_at d (each (declareds unset) ∷ α) α s i d NAME h q refl refl)

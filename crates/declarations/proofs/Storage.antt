@@ -4,9 +4,9 @@ use Rattle.grammar.specs.Symbols.{among, STOP, NAME, INTEGER, INT, BYTE, REF, AR
 use Rattle.grammar.specs.declared.Symbol.{Symbol}
 use Rattle.grammar.specs.Trees.{Token, token, key, Mode, of_mode, of_amode, Dec, nothing, variables, arrays, structures, of_dec}
 use Rattle.grammar.specs.Sentences.{items}
-use Rattle.grammar.specs.Machine.{Goal, Move, skip, orelse, then, never, tok, all, each, declareds, decs, Sort, a_mode, an_amode, at_dec, fewer}
-use Rattle.grammar.proofs.Steps.{items_here, step_at, sink_at, skip_at}
-use Rattle.nodes.proofs.Build.{grown, not_on, fewer_is, more_is, token_refused}
+use Rattle.grammar.specs.Machine.{Goal, Move, skip, orelse, then, never, tok, all, each, declareds, decs, Sort, a_mode, an_amode, at_dec}
+use Rattle.grammar.proofs.Steps.{items_here, step_at, skip_at}
+use Rattle.nodes.proofs.Build.{grown, not_on, fewer_is, more_is}
 use Rattle.nodes.proofs.Keep.{keep_mode, keep_amode, agree_trans}
 use Rattle.nodes.specs.Made.{at, Made, Way, Refused}
 use Rattle.nodes.specs.Nodes.{IsDec}
@@ -14,7 +14,6 @@ use Rattle.nodes.specs.declared.Node.{Node}
 use Rattle.nodes.specs.declared.Node.TheVariants as node
 use Rattle.nodes.specs.declared.Parsed.{Parsed}
 use Rattle.nodes.specs.declared.Fault.{Fault}
-use Rattle.nodes.specs.declared.Fault.TheVariants.{Syntax, Deep}
 use Rattle.declarations.proofs.Modes.{ModeMade, AmodeMade}
 use Rattle.declarations.proofs.Firsts.{mode_alike, mode_refuses}
 use Rattle.declarations.specs.Declaring.{mode_firsts, Listing, IsListing, of_listing}
@@ -85,26 +84,14 @@ module _ (k : Sort) (d : ℕ) (s : List Symbol) (i used : ℕ) where
     array_way : (α : List Goal) → at d (each (decs k) ∷ α) s i ≡ at d (tok LEFT ∷ tok INTEGER ∷ tok RIGHT ∷ an_amode ∷ all (declareds k) ∷ α) s (i + 1)
     array_way α = step_at d (each (decs k) ∷ α) (tok LEFT ∷ tok INTEGER ∷ tok RIGHT ∷ an_amode ∷ all (declareds k) ∷ α) s i d ARRAY h q refl refl
 
-    pub array_unopened : (get_or s (i + 1) STOP ≡ LEFT → ⊥) → DecRefused k d s i (Syntax (i + 1))
-    array_unopened n α = array_way α ∙ token_refused d LEFT (tok INTEGER ∷ tok RIGHT ∷ an_amode ∷ all (declareds k) ∷ α) s (i + 1) n
-
     module _ (h' : i + 1 < length s) (q' : get_or s (i + 1) STOP ≡ LEFT) where
-      pub array_deep : d ≡ 0 → DecRefused k d s i (Deep (i + 1))
-      array_deep z α = array_way α ∙ sink_at d (tok LEFT ∷ tok INTEGER ∷ tok RIGHT ∷ an_amode ∷ all (declareds k) ∷ α) (tok INTEGER ∷ tok RIGHT ∷ an_amode ∷ all (declareds k) ∷ α) s (i + 1) LEFT h' q' refl (ap fewer z)
-
       module _ (z : 0 < d) where
         opened_way : (α : List Goal) → at d (each (decs k) ∷ α) s i ≡ at (d - 1) (tok INTEGER ∷ tok RIGHT ∷ an_amode ∷ all (declareds k) ∷ α) s (i + 2)
         opened_way α = array_way α ∙ step_at d (tok LEFT ∷ tok INTEGER ∷ tok RIGHT ∷ an_amode ∷ all (declareds k) ∷ α) (tok INTEGER ∷ tok RIGHT ∷ an_amode ∷ all (declareds k) ∷ α) s (i + 1) (d - 1) LEFT h' q' refl (fewer_is d z) ∙ ap (λ (j : ℕ). at (d - 1) (tok INTEGER ∷ tok RIGHT ∷ an_amode ∷ all (declareds k) ∷ α) s j) two
 
-        pub array_no_length : (get_or s (i + 2) STOP ≡ INTEGER → ⊥) → DecRefused k d s i (Syntax (i + 2))
-        array_no_length n α = opened_way α ∙ token_refused (d - 1) INTEGER (tok RIGHT ∷ an_amode ∷ all (declareds k) ∷ α) s (i + 2) n
-
         module _ (h'' : i + 2 < length s) (q'' : get_or s (i + 2) STOP ≡ INTEGER) where
           length_way : (α : List Goal) → at d (each (decs k) ∷ α) s i ≡ at (d - 1) (tok RIGHT ∷ an_amode ∷ all (declareds k) ∷ α) s (i + 3)
           length_way α = opened_way α ∙ step_at (d - 1) (tok INTEGER ∷ tok RIGHT ∷ an_amode ∷ all (declareds k) ∷ α) (tok RIGHT ∷ an_amode ∷ all (declareds k) ∷ α) s (i + 2) (d - 1) INTEGER h'' q'' refl refl ∙ ap (λ (j : ℕ). at (d - 1) (tok RIGHT ∷ an_amode ∷ all (declareds k) ∷ α) s j) three
-
-          pub array_unclosed : (get_or s (i + 3) STOP ≡ RIGHT → ⊥) → DecRefused k d s i (Syntax (i + 3))
-          array_unclosed n α = length_way α ∙ token_refused (d - 1) RIGHT (an_amode ∷ all (declareds k) ∷ α) s (i + 3) n
 
           module _ (h''' : i + 3 < length s) (q''' : get_or s (i + 3) STOP ≡ RIGHT) where
             closed_way : (α : List Goal) → at d (each (decs k) ∷ α) s i ≡ at d (an_amode ∷ all (declareds k) ∷ α) s (i + 4)

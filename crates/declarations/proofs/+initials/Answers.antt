@@ -5,14 +5,9 @@ use Rattle.grammar.specs.Machine.{all, entries}
 use Rattle.nodes.specs.Made.{Refused}
 use Rattle.nodes.proofs.Build.{far, inside}
 use Rattle.nodes.proofs.Repeat.{entries_begin, starts, first_refused, refused, goes, ends}
-use Rattle.declarations.proofs.Initials.{ValuesMade, value_none, made_constant, made_identifier, made_literal, list_deep, made_empty, list_refused, list_unclosed, made_list, entry_refused, made_once, times_deep, no_times, times_unclosed, made_repeated}
+use Rattle.declarations.proofs.Initials.{ValuesMade, value_none, made_constant, made_identifier, made_literal, made_empty, list_refused, list_unclosed, made_list, entry_refused, made_once, times_deep, no_times, times_unclosed, made_repeated}
 use Rattle.grammar.proofs.Tests.{said, differs, agrees}
 use Rattle.declarations.proofs.+initials.Goals as goal
-
-pub list-returns-in_err-depth : goal.list-returns-in_err-depth
-list-returns-in_err-depth t c =
-    let p = err_from_is_err_and c.from_residual.result c.from_residual.ensures.1 in
-    rw (p.1, p.2, c.in_err-depth.ensures.0) (list_deep c.args.from.depth c.args.from.symbols.now c.args.from.next c.args.from.used c.args.nodes.now c.requires.there c.requires.opening c.in_err-depth.ensures.1)
 
 pub list-returns-then-eq : goal.list-returns-then-eq
 list-returns-then-eq t c =
