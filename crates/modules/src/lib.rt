@@ -202,18 +202,18 @@ fn external_procs(from: Spot<'_>, nodes: &mut [Node]) -> Result<Parsed, Fault>
     };
     let p = maybe_modes(inside, nodes)?;
     from.expect(p.next, Symbol::Right)?;
-    let result = Spot {
+    let behind = Spot {
         next: p.next + 1,
         used: p.used,
         ..from
     };
-    let m = maybe_mode(result, nodes)?;
-    let behind = Spot {
+    let m = maybe_mode(behind, nodes)?;
+    let last = Spot {
         next: m.next,
         used: m.used,
         ..from
     };
-    let n = names(Described, behind, nodes)?;
+    let n = names(Described, last, nodes)?;
     nodes[n.used] = Node::ExternalProcs(from.next + 2, p.root, m.root, n.root);
     Ok(Parsed {
         next: n.next,
