@@ -3,8 +3,8 @@ use Rattle.std.proofs.Common.{◌≡◌, ℕ, suc, ◌+◌, ◌-◌, ◌*◌, �
 use Rattle.grammar.specs.Symbols.{STOP, BLOCK, ENDBLOCK, IF, THEN, ELSEIF, ELSE, END, TO, WHILE, DO, REP, RETURN, VAL, NAME, LEFT}
 use Rattle.grammar.specs.declared.Symbol.{Symbol}
 use Rattle.grammar.specs.Trees.{Token, token, key, none, some, Expr, of_expr, Condition, of_condition, Body, Sequence, dummy, block, branch, branch_else, repeat, loop, return, return_with, Arms, when, elsewhen, of_body, of_sequence, of_statement, of_arms}
-use Rattle.grammar.specs.Machine.{Goal, refuse, tok, all, ors, statements, an_expr, a_body, a_statement, arms_on, returned, step_to, level, fewer}
-use Rattle.grammar.proofs.Steps.{items_here, step_at, sink_at, refuse_at, refuses, skip_at}
+use Rattle.grammar.specs.Machine.{Goal, tok, all, ors, statements, an_expr, a_body, a_statement, arms_on, returned, step_to, level, fewer}
+use Rattle.grammar.proofs.Steps.{items_here, step_at, sink_at, skip_at}
 use Rattle.nodes.proofs.Build.{grown, not_on, token_refused, alike, fewer_is, more_is}
 use Rattle.nodes.proofs.Keep.{keep_expr, keep_condition, keep_body, keep_sequence, keep_arms, agree_trans}
 use Rattle.nodes.specs.Made.{at, Made, Way, Refused}
@@ -51,9 +51,6 @@ module _ (d : ℕ) (s : List Symbol) (i used : ℕ) where
 
   -- a block
   module _ (h : i < length s) (q : get_or s i STOP ≡ BLOCK) where
-    pub block_deep : d ≡ 0 → Refused (a_statement ∷ []) d s i (Deep i)
-    block_deep z α = sink_at d (a_statement ∷ α) (a_body ∷ tok ENDBLOCK ∷ α) s i BLOCK h q refl (ap fewer z)
-
     module _ (low : ℕ) (z : (low ≡ d - 1) × (0 < d)) where
       block_way : (α : List Goal) → at d (a_statement ∷ α) s i ≡ at low (a_body ∷ tok ENDBLOCK ∷ α) s (i + 1)
       block_way α = step_at d (a_statement ∷ α) (a_body ∷ tok ENDBLOCK ∷ α) s i low BLOCK h q refl (fewer_low d low z)
@@ -73,13 +70,7 @@ module _ (d : ℕ) (s : List Symbol) (i used : ℕ) where
             (λ α. block_way α ∙ m.met (tok ENDBLOCK ∷ α) ∙ step_at low (tok ENDBLOCK ∷ α) α s b.next d ENDBLOCK h' q' refl (more_low d low z))
 
   -- a condition with its statements
-  pub arm_refused : (f : Fault) → Refused (all ors ∷ []) d s i f → Refused (all ors ∷ tok THEN ∷ all statements ∷ []) d s i f
-  arm_refused f r α = r (tok THEN ∷ all statements ∷ α)
-
   module _ (ns ms : List Node) (c : Parsed) (m : ConditionMade d s i used ns ms c) where
-    pub no_then : (get_or s c.next STOP ≡ THEN → ⊥) → Refused (all ors ∷ tok THEN ∷ all statements ∷ []) d s i (Syntax c.next)
-    no_then n α = m.met (tok THEN ∷ all statements ∷ α) ∙ token_refused d THEN (all statements ∷ α) s c.next n
-
     module _ (h : c.next < length s) (q : get_or s c.next STOP ≡ THEN) where
       then_way : (α : List Goal) → at d (all ors ∷ tok THEN ∷ all statements ∷ α) s i ≡ at d (all statements ∷ α) s (c.next + 1)
       then_way α = m.met (tok THEN ∷ all statements ∷ α) ∙ step_at d (tok THEN ∷ all statements ∷ α) (all statements ∷ α) s c.next d THEN h q refl refl
@@ -100,9 +91,6 @@ keep_arm n ns ms a t k h is = (is.0, is.1, is.2, is.3, a k h ∙ is.4, keep_cond
 
 -- what follows IF
 module _ (d : ℕ) (s : List Symbol) (i used : ℕ) (h : i < length s) (q : get_or s i STOP ≡ IF) where
-  pub branch_deep : d ≡ 0 → Refused (a_statement ∷ []) d s i (Deep i)
-  branch_deep z α = sink_at d (a_statement ∷ α) (all ors ∷ tok THEN ∷ all statements ∷ arms_on ∷ α) s i IF h q refl (ap fewer z)
-
   module _ (z : 0 < d) where
     if_way : (α : List Goal) → at d (a_statement ∷ α) s i ≡ at (d - 1) (all ors ∷ tok THEN ∷ all statements ∷ arms_on ∷ α) s (i + 1)
     if_way α = step_at d (a_statement ∷ α) (all ors ∷ tok THEN ∷ all statements ∷ arms_on ∷ α) s i (d - 1) IF h q refl (fewer_is d z)
@@ -162,9 +150,6 @@ module _ (d : ℕ) (s : List Symbol) (i used : ℕ) (es ns : List Node) (p : Par
               (λ g x. (p.root, e.root, omega (arith, m.below, o.more), o.below, x, keep_arms e.used ms _ g m.tree p.root (omega (arith, m.below, o.more)) (keep_arms p.used ns ms o.kept m.tree p.root m.below m.is), keep_sequence e.used ms _ g o.tree e.root o.below o.is))
               (m.text ∙ ap (of_arms m.tree) (items_here s p.next ELSE h q ∙ ap (λ (v : List Token). key ELSE ∷ v) (o.text ∙ ap (of_sequence o.tree) (items_here s e.next END h' q'))))
               (λ α. else_way α ∙ o.met (tok END ∷ α) ∙ step_at (d - 1) (tok END ∷ α) α s e.next d END h' q' refl (more_is d z))
-
-  pub no_end : (get_or s p.next STOP ≡ ELSEIF → ⊥) → (get_or s p.next STOP ≡ ELSE → ⊥) → (get_or s p.next STOP ≡ END → ⊥) → Refused (a_statement ∷ []) d s i (Syntax p.next)
-  no_end a b c α = let k : Symbol = get_or s p.next STOP in m.met α ∙ refuse_at (d - 1) (arms_on ∷ α) s p.next refl (refuses arms_on α k (not_on k ELSEIF _ _ _ a ∙ not_on k ELSE _ _ _ b ∙ not_on k END _ _ refuse c))
 
 -- Loops: the keyword K, what is read first by the goal G, DO, what is repeated by the goal B, and REP.
 module _ (K : Symbol) (G B : Goal) (opens : (α : List Goal) → step_to (a_statement ∷ α) K ≡ some (G ∷ tok DO ∷ B ∷ tok REP ∷ α)) (same : (d : ℕ) → level d K ≡ some d) (d : ℕ) (s : List Symbol) (i : ℕ) (h : i < length s) (q : get_or s i STOP ≡ K) where

@@ -40,9 +40,6 @@ pub val_name : (d : ℕ) (s : List Symbol) (i used : ℕ) (ns : List Node) → i
 val_name d s i used ns h q r = grown 0 IsVariable of_variable (PartsWay by_val d s i) s i used ns ns used (i + 1) (Name i) r (name i) (omega arith) (omega arith) (omega arith) (λ j l. refl) (λ g a. a) (items_here s i NAME h q) (λ w α. refl, tt)
 
 module _ (d : ℕ) (s : List Symbol) (i used : ℕ) where
-  pub val_no_name : (get_or s (i + 1) STOP ≡ NAME → ⊥) → Refused BehindVal d s (i + 1) (Syntax (i + 1))
-  val_no_name n α = refuse_at d (BehindVal ++ α) s (i + 1) refl (refuses (tok NAME) (parts start ∷ α) (get_or s (i + 1) STOP) (not_on (get_or s (i + 1) STOP) NAME _ _ refuse n))
-
   module _ (h : i + 1 < length s) (q : get_or s (i + 1) STOP ≡ NAME) where
     behind_way : (α : List Goal) → at d (BehindVal ++ α) s (i + 1) ≡ at d (parts start ∷ α) s (i + 1 + 1)
     behind_way α = step_at d (BehindVal ++ α) (parts start ∷ α) s (i + 1) d NAME h q refl refl
