@@ -1,5 +1,5 @@
 -- Brackets, primaries, variables and calls, step by step. Assumes nothing.
-use Rattle.std.proofs.Common.{◌≡◌, ℕ, ◌+◌, ◌-◌, ◌*◌, ◌<◌, ◌≤◌, List, [], ◌∷◌, ◌++◌, length, get_or, drop, set, refl, ap, ◌∙◌, arith}
+use Rattle.std.proofs.Common.{◌≡◌, ℕ, ◌+◌, ◌-◌, ◌*◌, ◌<◌, List, [], ◌∷◌, ◌++◌, length, get_or, drop, set, refl, ap, ◌∙◌, arith}
 use Rattle.grammar.specs.Symbols.{STOP, NAME, INTEGER, TEXT, LEFT, RIGHT, COMMA, DOT}
 use Rattle.grammar.specs.declared.Symbol.{Symbol}
 use Rattle.grammar.specs.Trees.{Token, token, key, Expr, Primary, integer, text, variable, call, call_on, paren, Variable, name, element, component, Exprs, first, comma, of_expr, of_exprs, of_primary, of_variable}
@@ -58,12 +58,6 @@ module _ (d : ℕ) (s : List Symbol) where
       )
 
 -- primaries
-module _ (d : ℕ) (s : List Symbol) (i : ℕ) (h : i ≤ length s) where
-  pub primary_none : (get_or s i STOP ≡ INTEGER → ⊥) → (get_or s i STOP ≡ TEXT → ⊥) → (get_or s i STOP ≡ NAME → ⊥) → (get_or s i STOP ≡ LEFT → ⊥) → Refused (a_primary ∷ []) d s i (Syntax i)
-  primary_none a b c e α =
-      let k : Symbol = get_or s i STOP in
-      refuse_at d (a_primary ∷ α) s i refl (refuses a_primary α k (not_on k INTEGER _ _ _ a ∙ not_on k TEXT _ _ _ b ∙ not_on k NAME _ _ _ c ∙ not_on k LEFT _ _ refuse e))
-
 abbrev pub PrimaryMade : ℕ → List Symbol → ℕ → ℕ → List Node → List Node → Parsed → Type 0
 PrimaryMade d s i used ns ms p = Made 0 Primary IsPrimary of_primary (Way (a_primary ∷ []) d s i) s i used ns ms p
 
@@ -159,9 +153,6 @@ module _ (d : ℕ) (s : List Symbol) (j : ℕ) where
   dot_way (longer x) h q w α = step_at d (parts w ∷ α) (tok NAME ∷ parts w ∷ α) s j d DOT h q refl refl
 
 module _ (b : Opening) (d : ℕ) (s : List Symbol) (i used : ℕ) (es ns : List Node) (p : Parsed) (m : VariableMade b d s i used es ns p) where
-  pub variable_ends : (get_or s p.next STOP ≡ LEFT → ⊥) → (get_or s p.next STOP ≡ DOT → ⊥) → VariableEnded b d s i used es ns p
-  variable_ends x y = record { within = m.within; more = m.more; few = m.few; below = m.below; kept = m.kept; tree = m.tree; is = m.is; text = m.text; met = (m.met.0, (x, y)) }
-
   module _ (h : p.next < length s) (q : get_or s p.next STOP ≡ LEFT) where
     pub left_refused : (f : Fault) → Refused Brackets d s p.next f → VariableRefused b d s i f
     left_refused f r w α = m.met.0 w α ∙ index_way d s p.next (so_far b m.tree) m.met.1 h q w α ∙ r (parts w ∷ α)

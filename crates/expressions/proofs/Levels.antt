@@ -147,9 +147,6 @@ module _ (d : ℕ) (s : List Symbol) (i k used : ℕ) where
       (items_here s (k - 1) (spell_monadic o.0) l o.1 ∙ ap (λ (x : Token). x ∷ items (k - 1 + 1) (drop (k - 1 + 1) s)) (monadic_mark o.0 (k - 1)) ∙ ap (λ (j : ℕ). token (spell_monadic o.0) (k - 1) ∷ items j (drop j s)) w ∙ ap (λ (v : List Token). token (spell_monadic o.0) (k - 1) ∷ v) m.text)
       (λ α. monadic_way d s (k - 1) l q α ∙ ap (λ (j : ℕ). at d (a_term ∷ α) s j) w ∙ m.met α)
 
-  pub term_ends : (os es ns : List Node) (p : Parsed) → k ≡ i → Agree used os es → TermMade d s k used es ns p → TermMade d s i used os ns p
-  term_ends os es ns p e a m = subst (λ (j : ℕ). TermMade d s j used os ns p) e (record { within = m.within; more = m.more; few = m.few; below = m.below; kept = agree_trans used used os es ns (omega arith) a m.kept; tree = m.tree; is = m.is; text = m.text; met = m.met })
-
 -- dyadic operators
 abbrev IsDyadic : ℕ → Symbol → Type 0
 IsDyadic n c = (o : Dyadic n) × (c ≡ spell o)
