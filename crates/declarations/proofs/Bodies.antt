@@ -88,9 +88,6 @@ module _ (d : ℕ) (s : List Symbol) (i used : ℕ) where
 
   -- a body: the locals, and the statements behind them
   module _ (ns ms : List Node) (p : Parsed) (m : LocalsMade d s i used ns ms p) where
-    pub statements_refused : (f : Fault) → Refused (all statements ∷ []) d s p.next f → Refused (a_body ∷ []) d s i f
-    statements_refused f r α = m.met α ∙ r α
-
     pub made_body : (x : ℕ) (os : List Node) (e : Parsed) → e.used < length os → Made x Sequence IsSequence of_sequence (Way (all statements ∷ []) d s p.next) s p.next p.used ms os e → Made (x + 2) Body IsBody of_body (Way (a_body ∷ []) d s i) s i used ns (set os e.used (node.Body p.root e.root)) (record { next = e.next; used = e.used + 1; root = e.used })
     made_body x os e r b =
         grown (x + 2) IsBody of_body (Way (a_body ∷ []) d s i) s i used ns os e.used e.next (node.Body p.root e.root) r (body m.tree b.tree) b.within (omega (arith, m.more, b.more)) (omega (arith, m.few, b.few))
