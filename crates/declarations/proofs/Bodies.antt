@@ -1,5 +1,5 @@
 -- The locals of a body, step by step. Assumes nothing.
-use Rattle.std.proofs.Common.{◌≡◌, ℕ, ◌+◌, ◌*◌, ◌<◌, true, false, List, [], ◌∷◌, length, get_or, set, refl, ap, ◌∙◌, arith}
+use Rattle.std.proofs.Common.{◌≡◌, ℕ, ◌+◌, ◌<◌, true, false, List, [], ◌∷◌, length, get_or, set, refl, ap, ◌∙◌, arith}
 use Rattle.grammar.specs.Symbols.{among, STOP, SEMI}
 use Rattle.grammar.specs.declared.Symbol.{Symbol}
 use Rattle.grammar.specs.Trees.{Opt, none, some, Many, Init, Expr, of_expr, of_inits, Mode, of_mode, Local, local, Locals, locals, of_locals, Body, body, Sequence, of_body, of_sequence}
@@ -7,7 +7,7 @@ use Rattle.grammar.specs.Machine.{Goal, Forest, Move, mapped, orelse, then, neve
 use Rattle.grammar.proofs.Steps.{items_here, step_at, like_at, mapped_on}
 use Rattle.nodes.proofs.Build.{grown, token_refused}
 use Rattle.nodes.proofs.Keep.{keep_mode, keep_many, keep_init, keep_expr, keep_local, keep_locals, keep_sequence, agree_trans}
-use Rattle.nodes.specs.Made.{at, Made, Way, Refused}
+use Rattle.nodes.specs.Made.{Fewer, at, Made, Way, Refused}
 use Rattle.nodes.specs.Nodes.{Agree, IsMany, IsInit, IsExpr, IsLocal, IsLocals, IsBody, IsSequence}
 use Rattle.nodes.specs.declared.Node.{Node}
 use Rattle.nodes.specs.declared.Node.TheVariants as node
@@ -75,7 +75,7 @@ statements_way d s j n α =
 
 module _ (d : ℕ) (s : List Symbol) (i used : ℕ) where
   module _ (es ns : List Node) (p : Parsed) (m : LocalsSome d s i used es ns p) where
-    pub made_locals : (ms : List Node) (t : Parsed) → t.used < length ms → LocalMade d s p.next p.used ns ms t → t.used + 2 * p.next < 2 * t.next + p.used → LocalsSome d s i used es (set ms t.used (node.Locals p.root t.root)) (record { next = t.next; used = t.used + 1; root = t.used })
+    pub made_locals : (ms : List Node) (t : Parsed) → t.used < length ms → LocalMade d s p.next p.used ns ms t → Fewer p.next p.used t → LocalsSome d s i used es (set ms t.used (node.Locals p.root t.root)) (record { next = t.next; used = t.used + 1; root = t.used })
     made_locals ms t r l w =
         grown 1 IsLocals of_locals (LocalWay d s i) s i used es ms t.used t.next (node.Locals p.root t.root) r (locals m.tree l.tree) l.within (omega (arith, m.more, l.more)) (omega (arith, m.few, w))
         (agree_trans used p.used es ns ms m.more m.kept l.kept)

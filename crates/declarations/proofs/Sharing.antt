@@ -1,5 +1,5 @@
 -- Declared names with their initial values, step by step. Assumes nothing.
-use Rattle.std.proofs.Common.{◌≡◌, ℕ, ◌+◌, ◌*◌, ◌<◌, Bool, true, false, List, [], ◌∷◌, length, get_or, drop, set, sym, refl, ap, ◌∙◌, subst, arith}
+use Rattle.std.proofs.Common.{◌≡◌, ℕ, ◌+◌, ◌<◌, Bool, true, false, List, [], ◌∷◌, length, get_or, drop, set, sym, refl, ap, ◌∙◌, arith}
 use Rattle.grammar.specs.Symbols.{same, same_true, STOP, NAME, BECOMES}
 use Rattle.grammar.specs.declared.Symbol.{Symbol}
 use Rattle.grammar.specs.Trees.{Token, token, key, Opt, none, some, Many, one, more, Init, plain, given, of_init, of_many, of_name}
@@ -9,7 +9,7 @@ use Rattle.grammar.proofs.Expressions.{on_not}
 use Rattle.grammar.proofs.Steps.{items_here, step_at, like_at, skip_at, followed_at, expr_at, mapped_on}
 use Rattle.nodes.proofs.Build.{grown, not_on, inside}
 use Rattle.nodes.proofs.Keep.{keep_name, keep_many, agree_set, at_set, agree_trans}
-use Rattle.nodes.specs.Made.{at, Made, Way, Refused, Shares, of_shared, NamesWay}
+use Rattle.nodes.specs.Made.{Fewer, at, Made, Way, Refused, Shares, of_shared, NamesWay}
 use Rattle.nodes.specs.Nodes.{Agree, IsMany, IsName, IsInit}
 use Rattle.declarations.specs.Declaring.{goal_of}
 use Rattle.nodes.specs.Lists.{IsInitial}
@@ -44,16 +44,15 @@ first_name s i used ns q r =
     grown 0 (IsMany IsName) of_shared (NamesWay s i) s i used ns ns used (i + 2) (node.Name i) r (one i) (omega (arith, q.2)) (omega arith) (omega arith) (λ j l. refl) (λ g a. a) (two_items s i q)
     (λ d v α. step_at d (each (declareds (set_sort v)) ∷ α) (given_on v ∷ α) s i d NAME h q.0 refl refl ∙ becomes_way d v α s i (given_on v ∷ α) q refl)
 
-pub more_names : (s : List Symbol) (i used : ℕ) (es ns : List Node) (p : Parsed) → NamesMade s i used es ns p → Shares s p.next → p.used + 1 < length ns → NamesMade s i used es (set (set ns p.used (node.Name p.next)) (p.used + 1) (node.Also p.root p.used)) (record { next = p.next + 2; used = p.used + 2; root = p.used + 1 })
+pub more_names : (s : List Symbol) (i used : ℕ) (es ns : List Node) (p : Parsed) → NamesMade s i used es ns p → Shares s p.next → p.used + 1 < length ns → NamesMade s i used es (set (set ns p.used (node.Name p.next)) (p.used + 1) (node.Also p.root p.used)) (record { next = p.next + 2; used = p.used + 1 + 1; root = p.used + 1 })
 more_names s i used es ns p m q r =
-    let two : p.used + 1 + 1 ≡ p.used + 2 = omega arith in
     let ms : List Node = set ns p.used (node.Name p.next) in
     let g₁ : Agree p.used ns ms = agree_set p.used p.used ns _ (omega arith) in
-    subst (λ (u : ℕ). NamesMade s i used es (set ms (p.used + 1) (node.Also p.root p.used)) (record { next = p.next + 2; used = u; root = p.used + 1 })) two (grown 0 (IsMany IsName) of_shared (NamesWay s i) s i used es ms (p.used + 1) (p.next + 2) (node.Also p.root p.used) (simp lib.ListN.length-set r) (more m.tree p.next) (omega (arith, q.2)) (omega (arith, m.more)) (omega (arith, m.few))
+    grown 0 (IsMany IsName) of_shared (NamesWay s i) s i used es ms (p.used + 1) (p.next + 2) (node.Also p.root p.used) (simp lib.ListN.length-set r) (more m.tree p.next) (omega (arith, q.2)) (omega (arith, m.more)) (omega (arith, m.few))
     (agree_trans used p.used es ns ms m.more m.kept g₁)
     (λ g a. (p.root, p.used, omega (arith, m.below), omega arith, a, keep_many (p.used + 1) ms _ g IsName (keep_name (p.used + 1) ms _ g) m.tree p.root (omega (arith, m.below)) (keep_many p.used ns ms g₁ IsName (keep_name p.used ns ms g₁) m.tree p.root m.below m.is), g p.used (omega arith) ∙ at_set p.used ns _ (omega arith)))
     (m.text ∙ ap (λ (w : List Token). of_many of_name BECOMES m.tree (key BECOMES ∷ w)) (two_items s p.next q))
-    (λ d v α. m.met d v α ∙ more_way d v α s p.next q))
+    (λ d v α. m.met d v α ∙ more_way d v α s p.next q)
 
 linked_end : (α : List Goal) (o : Opt (Forest α)) → is_some (pair (void linked) o) ≡ is_some (pair (void (named inner)) (pair (void links_on) o))
 linked_end α none = refl
@@ -86,7 +85,7 @@ module _ (v : Setting) (d : ℕ) (s : List Symbol) (i used : ℕ) where
   pub made_plain : (ns : List Node) → i < length s → get_or s i STOP ≡ NAME → (get_or s (i + 1) STOP ≡ BECOMES → ⊥) → used < length ns → InitMade v d s i used ns (set ns used (node.Plain i)) (record { next = i + 1; used = used + 1; root = used })
   made_plain ns h q n r = grown 0 (IsInit (IsInitial v)) (of_init (of_initial v)) (Way (each (declareds (set_sort v)) ∷ []) d s i) s i used ns ns used (i + 1) (node.Plain i) r (plain i) (omega arith) (omega arith) (omega arith) (λ j l. refl) (λ g a. a) (items_here s i NAME h q) (λ α. step_at d (each (declareds (set_sort v)) ∷ α) (given_on v ∷ α) s i d NAME h q refl refl ∙ skip_at d (given_on v) α s (i + 1) none none refl (not_on (get_or s (i + 1) STOP) BECOMES _ _ _ n))
 
-  module _ (ns ms : List Node) (p : Parsed) (m : NamesMade s i used ns ms p) (n : Shares s p.next → ⊥) (strict : p.used + 2 * i < 2 * p.next + used) where
+  module _ (ns ms : List Node) (p : Parsed) (m : NamesMade s i used ns ms p) (n : Shares s p.next → ⊥) (strict : Fewer i used p) where
     init_way : (α : List Goal) → at d (each (declareds (set_sort v)) ∷ α) s i ≡ at d (goal_of v ∷ α) s p.next
     init_way α = m.met d v α ∙ chain_way v d α s p.next n
 

@@ -12,7 +12,7 @@ ghost use Rattle.nodes.proofs.Repeat.{modes_begin, decs_begin};
 use crate::{Declares, amode, mode, names};
 use grammar::Symbol;
 use nodes::lists::{Entries, read_list};
-use nodes::{Fault, Node, Parsed, Spot};
+use nodes::{Fault, Node, Parsed, Spot, put};
 
 /// Modes with commas between them.
 #[derive(Clone, Copy)]
@@ -69,12 +69,12 @@ fn arrays<D: Declares>(of: D, from: Spot<'_>, nodes: &mut [Node]) -> Result<Pars
         ..from
     };
     let n = names(of, declared, nodes)?;
-    nodes[n.used] = Node::Arrays(from.next + 1, from.next + 2, m.root, n.root);
-    Ok(Parsed {
-        next: n.next,
-        used: n.used + 1,
-        root: n.used,
-    })
+    Ok(put(
+        nodes,
+        n.used,
+        Node::Arrays(from.next + 1, from.next + 2, m.root, n.root),
+        n.next,
+    ))
 }
 
 /// The declaration of records, the name of their mode being there.
@@ -89,12 +89,7 @@ fn structures<D: Declares>(of: D, from: Spot<'_>, nodes: &mut [Node]) -> Result<
         ..from
     };
     let n = names(of, behind, nodes)?;
-    nodes[n.used] = Node::Structures(from.next, n.root);
-    Ok(Parsed {
-        next: n.next,
-        used: n.used + 1,
-        root: n.used,
-    })
+    Ok(put(nodes, n.used, Node::Structures(from.next, n.root), n.next))
 }
 
 /// The declaration of variables of a simple mode, which begins there.
@@ -111,12 +106,7 @@ fn variables<D: Declares>(of: D, from: Spot<'_>, nodes: &mut [Node]) -> Result<P
         ..from
     };
     let n = names(of, behind, nodes)?;
-    nodes[n.used] = Node::Variables(m.root, n.root);
-    Ok(Parsed {
-        next: n.next,
-        used: n.used + 1,
-        root: n.used,
-    })
+    Ok(put(nodes, n.used, Node::Variables(m.root, n.root), n.next))
 }
 
 /// One declaration, which may be empty.
@@ -129,14 +119,7 @@ fn dec<D: Declares>(of: D, from: Spot<'_>, nodes: &mut [Node]) -> Result<Parsed,
         Symbol::Array => arrays(of, from, nodes),
         Symbol::Name => structures(of, from, nodes),
         Symbol::Int | Symbol::Byte | Symbol::Ref => variables(of, from, nodes),
-        _ => {
-            nodes[from.used] = Node::Nothing;
-            Ok(Parsed {
-                next: from.next,
-                used: from.used + 1,
-                root: from.used,
-            })
-        }
+        _ => Ok(put(nodes, from.used, Node::Nothing, from.next)),
     }
 }
 

@@ -5,7 +5,7 @@ pub mod bricks;
 pub mod locals;
 
 ghost use Rattle.std.specs.Prelude.{◌≡◌, ℕ, ◌+◌, ◌-◌, ◌*◌, ◌<◌, ◌≤◌, true, [], ◌∷◌, length, MatchResult, slice_index_or};
-ghost use Rattle.nodes.specs.Made.{Made, Way, Refused, FieldsWay, Shares, of_shared, NamesWay, Room, ReadsTo, Reads};
+ghost use Rattle.nodes.specs.Made.{Fewer, Made, Way, Refused, FieldsWay, Shares, of_shared, NamesWay, Room, ReadsTo, Reads};
 ghost use Rattle.nodes.specs.Nodes.{IsExpr, IsMode, IsAmode, IsFields, IsValue, IsValues, IsEntry, IsMany, IsName, IsInit};
 ghost use Rattle.grammar.specs.Symbols.{Says, among, STOP, LEFT, COMMA, REF, ARRAY, PLUS, MINUS};
 ghost use Rattle.grammar.specs.Trees.{Expr, of_expr, Mode, Amode, of_mode, of_amode, Fields, Value, Values, Entry, of_fields, of_value, of_values, of_entry, Many, Init, of_init, of_inits, of_name, of_names};
@@ -18,7 +18,7 @@ ghost use Rattle.nodes.proofs.Repeat.{declareds_begin};
 use expressions::expr;
 use grammar::Symbol;
 use nodes::lists::{Entries, read_list};
-use nodes::{Fault, Node, Parsed, Spot};
+use nodes::{Fault, Node, Parsed, Spot, put};
 
 /// The mode of an array's elements.
 #[cycle(modes)]
@@ -28,12 +28,7 @@ pub fn amode(from: Spot<'_>, nodes: &mut [Node]) -> Result<Parsed, Fault>
     ensures { ReadsTo 0 Amode IsAmode of_amode (an_amode ∷ []) from.entry nodes.old nodes.new result }
 {
     if from.peek(from.next) == Symbol::Name {
-        nodes[from.used] = Node::Records(from.next);
-        return Ok(Parsed {
-            next: from.next + 1,
-            used: from.used + 1,
-            root: from.used,
-        });
+        return Ok(put(nodes, from.used, Node::Records(from.next), from.next + 1));
     }
     mode(from, nodes)
 }
@@ -53,12 +48,7 @@ fn array_mode(from: Spot<'_>, nodes: &mut [Node]) -> Result<Parsed, Fault>
             ..from
         };
         let m = amode(behind, nodes)?;
-        nodes[m.used] = Node::RefArray(m.root);
-        return Ok(Parsed {
-            next: m.next,
-            used: m.used + 1,
-            root: m.used,
-        });
+        return Ok(put(nodes, m.used, Node::RefArray(m.root), m.next));
     }
     let _ = from.deeper(from.next + 2)?;
     from.expect(from.next + 3, Symbol::Right)?;
@@ -67,12 +57,12 @@ fn array_mode(from: Spot<'_>, nodes: &mut [Node]) -> Result<Parsed, Fault>
         ..from
     };
     let m = amode(behind, nodes)?;
-    nodes[m.used] = Node::RefArrayBrackets(from.next + 2, m.root);
-    Ok(Parsed {
-        next: m.next,
-        used: m.used + 1,
-        root: m.used,
-    })
+    Ok(put(
+        nodes,
+        m.used,
+        Node::RefArrayBrackets(from.next + 2, m.root),
+        m.next,
+    ))
 }
 
 /// A mode that begins with REF there.
@@ -84,30 +74,19 @@ fn reference(from: Spot<'_>, nodes: &mut [Node]) -> Result<Parsed, Fault>
     ensures { ReadsTo 0 Mode IsMode of_mode (a_mode ∷ []) from.entry nodes.old nodes.new result }
 {
     match from.peek(from.next + 1) {
-        Symbol::Int => {
-            nodes[from.used] = Node::RefInt;
-            Ok(Parsed {
-                next: from.next + 2,
-                used: from.used + 1,
-                root: from.used,
-            })
-        }
-        Symbol::Byte => {
-            nodes[from.used] = Node::RefByte(from.next + 1);
-            Ok(Parsed {
-                next: from.next + 2,
-                used: from.used + 1,
-                root: from.used,
-            })
-        }
-        Symbol::Name => {
-            nodes[from.used] = Node::RefRecord(from.next + 1);
-            Ok(Parsed {
-                next: from.next + 2,
-                used: from.used + 1,
-                root: from.used,
-            })
-        }
+        Symbol::Int => Ok(put(nodes, from.used, Node::RefInt, from.next + 2)),
+        Symbol::Byte => Ok(put(
+            nodes,
+            from.used,
+            Node::RefByte(from.next + 1),
+            from.next + 2,
+        )),
+        Symbol::Name => Ok(put(
+            nodes,
+            from.used,
+            Node::RefRecord(from.next + 1),
+            from.next + 2,
+        )),
         Symbol::Array => array_mode(from, nodes),
         _ => Err(Fault::Syntax(from.next + 1)),
     }
@@ -120,22 +99,8 @@ pub fn mode(from: Spot<'_>, nodes: &mut [Node]) -> Result<Parsed, Fault>
     ensures { ReadsTo 0 Mode IsMode of_mode (a_mode ∷ []) from.entry nodes.old nodes.new result }
 {
     match from.peek(from.next) {
-        Symbol::Int => {
-            nodes[from.used] = Node::Int;
-            Ok(Parsed {
-                next: from.next + 1,
-                used: from.used + 1,
-                root: from.used,
-            })
-        }
-        Symbol::Byte => {
-            nodes[from.used] = Node::Byte(from.next);
-            Ok(Parsed {
-                next: from.next + 1,
-                used: from.used + 1,
-                root: from.used,
-            })
-        }
+        Symbol::Int => Ok(put(nodes, from.used, Node::Int, from.next + 1)),
+        Symbol::Byte => Ok(put(nodes, from.used, Node::Byte(from.next), from.next + 1)),
         Symbol::Ref => reference(from, nodes),
         _ => Err(Fault::Syntax(from.next)),
     }
@@ -157,12 +122,12 @@ fn further(from: Spot<'_>, nodes: &mut [Node], at: Parsed) -> Result<Parsed, Fau
     ensures { MatchResult result (λ p. Made 0 Fields IsFields of_fields (FieldsWay from.entry.depth from.entry.symbols.now from.entry.next) from.entry.symbols.now from.entry.next from.entry.used nodes.old nodes.new p × (at.next < p.next)) (λ f. Refused (the_fields ∷ []) from.entry.depth from.entry.symbols.now from.entry.next f) }
 {
     if from.peek(at.next + 1) == Symbol::Name {
-        nodes[at.used] = Node::AlsoField(at.root, at.next + 1);
-        return Ok(Parsed {
-            next: at.next + 2,
-            used: at.used + 1,
-            root: at.used,
-        });
+        return Ok(put(
+            nodes,
+            at.used,
+            Node::AlsoField(at.root, at.next + 1),
+            at.next + 2,
+        ));
     }
     let behind = Spot {
         next: at.next + 1,
@@ -171,12 +136,12 @@ fn further(from: Spot<'_>, nodes: &mut [Node], at: Parsed) -> Result<Parsed, Fau
     };
     let m = mode(behind, nodes)?;
     from.expect(m.next, Symbol::Name)?;
-    nodes[m.used] = Node::NextField(at.root, m.root, m.next);
-    Ok(Parsed {
-        next: m.next + 1,
-        used: m.used + 1,
-        root: m.used,
-    })
+    Ok(put(
+        nodes,
+        m.used,
+        Node::NextField(at.root, m.root, m.next),
+        m.next + 1,
+    ))
 }
 
 /// The components of a record mode, or the parameters of a procedure.
@@ -188,12 +153,7 @@ pub fn fields(from: Spot<'_>, nodes: &mut [Node]) -> Result<Parsed, Fault>
 {
     let m = mode(from, nodes)?;
     from.expect(m.next, Symbol::Name)?;
-    nodes[m.used] = Node::Field(m.root, m.next);
-    let mut at = Parsed {
-        next: m.next + 1,
-        used: m.used + 1,
-        root: m.used,
-    };
+    let mut at = put(nodes, m.used, Node::Field(m.root, m.next), m.next + 1);
     while from.peek(at.next) == Symbol::Comma {
         at = further(from, nodes, at)?;
     }
@@ -208,16 +168,12 @@ fn signed(from: Spot<'_>, nodes: &mut [Node]) -> Result<Parsed, Fault>
     ensures { ReadsTo 0 Value IsValue of_value (a_value ∷ []) from.entry nodes.old nodes.new result }
 {
     from.expect(from.next + 1, Symbol::Integer)?;
-    nodes[from.used] = if from.peek(from.next) == Symbol::Plus {
+    let number = if from.peek(from.next) == Symbol::Plus {
         Node::Signed(from.next, from.next + 1)
     } else {
         Node::MinusSigned(from.next, from.next + 1)
     };
-    Ok(Parsed {
-        next: from.next + 2,
-        used: from.used + 1,
-        root: from.used,
-    })
+    Ok(put(nodes, from.used, number, from.next + 2))
 }
 
 /// A list of initial values, its bracket being there.
@@ -230,12 +186,7 @@ fn list(from: Spot<'_>, nodes: &mut [Node]) -> Result<Parsed, Fault>
 {
     let depth = from.deeper(from.next)?;
     if from.peek(from.next + 1) == Symbol::Right {
-        nodes[from.used] = Node::EmptyList(from.next);
-        return Ok(Parsed {
-            next: from.next + 2,
-            used: from.used + 1,
-            root: from.used,
-        });
+        return Ok(put(nodes, from.used, Node::EmptyList(from.next), from.next + 2));
     }
     let inside = Spot {
         next: from.next + 1,
@@ -244,12 +195,7 @@ fn list(from: Spot<'_>, nodes: &mut [Node]) -> Result<Parsed, Fault>
     };
     let v = values(inside, nodes)?;
     from.expect(v.next, Symbol::Right)?;
-    nodes[v.used] = Node::List(from.next, v.root);
-    Ok(Parsed {
-        next: v.next + 1,
-        used: v.used + 1,
-        root: v.used,
-    })
+    Ok(put(nodes, v.used, Node::List(from.next, v.root), v.next + 1))
 }
 
 /// An initial value in a data brick.
@@ -260,30 +206,9 @@ fn value(from: Spot<'_>, nodes: &mut [Node]) -> Result<Parsed, Fault>
     ensures { ReadsTo 0 Value IsValue of_value (a_value ∷ []) from.entry nodes.old nodes.new result }
 {
     match from.peek(from.next) {
-        Symbol::Integer => {
-            nodes[from.used] = Node::Constant(from.next);
-            Ok(Parsed {
-                next: from.next + 1,
-                used: from.used + 1,
-                root: from.used,
-            })
-        }
-        Symbol::Name => {
-            nodes[from.used] = Node::Identifier(from.next);
-            Ok(Parsed {
-                next: from.next + 1,
-                used: from.used + 1,
-                root: from.used,
-            })
-        }
-        Symbol::Text => {
-            nodes[from.used] = Node::Literal(from.next);
-            Ok(Parsed {
-                next: from.next + 1,
-                used: from.used + 1,
-                root: from.used,
-            })
-        }
+        Symbol::Integer => Ok(put(nodes, from.used, Node::Constant(from.next), from.next + 1)),
+        Symbol::Name => Ok(put(nodes, from.used, Node::Identifier(from.next), from.next + 1)),
+        Symbol::Text => Ok(put(nodes, from.used, Node::Literal(from.next), from.next + 1)),
         Symbol::Plus | Symbol::Minus => signed(from, nodes),
         Symbol::Left => list(from, nodes),
         _ => Err(Fault::Syntax(from.next)),
@@ -304,12 +229,12 @@ fn entry(from: Spot<'_>, nodes: &mut [Node]) -> Result<Parsed, Fault>
     let _ = from.deeper(v.next)?;
     from.expect(v.next + 1, Symbol::Integer)?;
     from.expect(v.next + 2, Symbol::Right)?;
-    nodes[v.used] = Node::Repeated(v.root, v.next, v.next + 1);
-    Ok(Parsed {
-        next: v.next + 3,
-        used: v.used + 1,
-        root: v.used,
-    })
+    Ok(put(
+        nodes,
+        v.used,
+        Node::Repeated(v.root, v.next, v.next + 1),
+        v.next + 3,
+    ))
 }
 
 /// Values of a list, separated by commas. (Not `read_list`: tried, and a cycle through a trait leaves its proof to be written by hand.)
@@ -327,12 +252,7 @@ fn values(from: Spot<'_>, nodes: &mut [Node]) -> Result<Parsed, Fault>
             ..from
         };
         let e = entry(behind, nodes)?;
-        nodes[e.used] = Node::Also(at.root, e.root);
-        at = Parsed {
-            next: e.next,
-            used: e.used + 1,
-            root: e.used,
-        };
+        at = put(nodes, e.used, Node::Also(at.root, e.root), e.next);
     }
     Ok(at)
 }
@@ -348,22 +268,17 @@ fn shares(from: Spot<'_>, i: usize) -> bool
 fn shared(from: Spot<'_>, nodes: &mut [Node]) -> Parsed
     requires first { Shares from.symbols.now from.next }
     requires room { Room 0 from nodes.old }
-    ensures { Made 0 (Many ℕ) (IsMany IsName) of_shared (NamesWay from.entry.symbols.now from.entry.next) from.entry.symbols.now from.entry.next from.entry.used nodes.old nodes.new result × (Shares from.entry.symbols.now result.next → ⊥) × (result.used + 2 * from.entry.next < 2 * result.next + from.entry.used) }
+    ensures { Made 0 (Many ℕ) (IsMany IsName) of_shared (NamesWay from.entry.symbols.now from.entry.next) from.entry.symbols.now from.entry.next from.entry.used nodes.old nodes.new result × (Shares from.entry.symbols.now result.next → ⊥) × Fewer from.entry.next from.entry.used result }
 {
-    nodes[from.used] = Node::Name(from.next);
-    let mut at = Parsed {
-        next: from.next + 2,
-        used: from.used + 1,
-        root: from.used,
-    };
+    let mut at = put(nodes, from.used, Node::Name(from.next), from.next + 2);
     while shares(from, at.next) {
-        nodes[at.used] = Node::Name(at.next);
-        nodes[at.used + 1] = Node::Also(at.root, at.used);
-        at = Parsed {
-            next: at.next + 2,
-            used: at.used + 2,
-            root: at.used + 1,
-        };
+        let name = put(nodes, at.used, Node::Name(at.next), at.next + 1);
+        at = put(
+            nodes,
+            name.used,
+            Node::Also(at.root, name.root),
+            at.next + 2,
+        );
     }
     at
 }
@@ -450,12 +365,7 @@ fn initialized<V: Initial>(of: V, from: Spot<'_>, nodes: &mut [Node]) -> Result<
 {
     from.expect(from.next, Symbol::Name)?;
     if from.peek(from.next + 1) != Symbol::Becomes {
-        nodes[from.used] = Node::Plain(from.next);
-        return Ok(Parsed {
-            next: from.next + 1,
-            used: from.used + 1,
-            root: from.used,
-        });
+        return Ok(put(nodes, from.used, Node::Plain(from.next), from.next + 1));
     }
     let n = shared(from, nodes);
     let behind = Spot {
@@ -464,12 +374,7 @@ fn initialized<V: Initial>(of: V, from: Spot<'_>, nodes: &mut [Node]) -> Result<
         ..from
     };
     let v = of.value(behind, nodes)?;
-    nodes[v.used] = Node::Given(n.root, v.root);
-    Ok(Parsed {
-        next: v.next,
-        used: v.used + 1,
-        root: v.used,
-    })
+    Ok(put(nodes, v.used, Node::Given(n.root, v.root), v.next))
 }
 
 /// A name that is described or declared without a value.
@@ -479,12 +384,7 @@ fn bare_name(from: Spot<'_>, nodes: &mut [Node]) -> Result<Parsed, Fault>
     ensures { ReadsTo 0 ℕ IsName of_name (each (declareds unset) ∷ []) from.entry nodes.old nodes.new result }
 {
     from.expect(from.next, Symbol::Name)?;
-    nodes[from.used] = Node::Name(from.next);
-    Ok(Parsed {
-        next: from.next + 1,
-        used: from.used + 1,
-        root: from.used,
-    })
+    Ok(put(nodes, from.used, Node::Name(from.next), from.next + 1))
 }
 
 /// Names as they are declared, with commas between them.

@@ -10,7 +10,7 @@ ghost use Rattle.declarations.specs.Bodies.{LocalWay, LocalsWay, of_ended};
 
 use crate::{InBlock, begins_mode, mode, names};
 use grammar::Symbol;
-use nodes::{Fault, Node, Parsed, Spot};
+use nodes::{Fault, Node, Parsed, Spot, put};
 
 /// One declaration of locals with its semicolon, its mode beginning there.
 fn local(from: Spot<'_>, nodes: &mut [Node]) -> Result<Parsed, Fault>
@@ -27,12 +27,7 @@ fn local(from: Spot<'_>, nodes: &mut [Node]) -> Result<Parsed, Fault>
     };
     let n = names(InBlock, behind, nodes)?;
     from.expect(n.next, Symbol::Semi)?;
-    nodes[n.used] = Node::Local(m.root, n.root);
-    Ok(Parsed {
-        next: n.next + 1,
-        used: n.used + 1,
-        root: n.used,
-    })
+    Ok(put(nodes, n.used, Node::Local(m.root, n.root), n.next + 1))
 }
 
 /// The locals of a body, up to where no mode begins.
@@ -41,12 +36,7 @@ pub fn locals(from: Spot<'_>, nodes: &mut [Node]) -> Result<Parsed, Fault>
     requires room { Room 1 from nodes.old }
     ensures { Reads 1 Locals IsLocals of_locals LocalsWay (Refused (a_body ∷ [])) from.entry nodes.old nodes.new result }
 {
-    nodes[from.used] = Node::NoLocals;
-    let mut at = Parsed {
-        next: from.next,
-        used: from.used + 1,
-        root: from.used,
-    };
+    let mut at = put(nodes, from.used, Node::NoLocals, from.next);
     while begins_mode(from.peek(at.next)) {
         let behind = Spot {
             next: at.next,
@@ -54,12 +44,7 @@ pub fn locals(from: Spot<'_>, nodes: &mut [Node]) -> Result<Parsed, Fault>
             ..from
         };
         let l = local(behind, nodes)?;
-        nodes[l.used] = Node::Locals(at.root, l.root);
-        at = Parsed {
-            next: l.next,
-            used: l.used + 1,
-            root: l.used,
-        };
+        at = put(nodes, l.used, Node::Locals(at.root, l.root), l.next);
     }
     Ok(at)
 }

@@ -7,7 +7,7 @@ use Rattle.grammar.specs.Sentences.{items}
 use Rattle.grammar.specs.Machine.{Goal, refuse, goes, mapped, tok, rest, exprs, an_expr, a_primary, named, arguments, argued, closed_on, parts, Stand, inner, start, right, argument, behind, Seen, just_name, one_index, longer, seen, indexed, next_goal}
 use Rattle.grammar.proofs.Steps.{items_here, step_at, refuse_at, refuses, skip_at, followed_at}
 use Rattle.nodes.proofs.Keep.{keep_expr, keep_exprs, keep_variable, agree_trans}
-use Rattle.nodes.specs.Made.{at, Made, Way, Refused, answer, Ended, FormWay, FormRefused, NotCalled, Opening, by_name, by_val, so_far, PartsWay, VariableWay, VariableRefused, ArgsWay}
+use Rattle.nodes.specs.Made.{Fewer, at, Made, Way, Refused, answer, Ended, FormWay, FormRefused, NotCalled, Opening, by_name, by_val, so_far, PartsWay, VariableWay, VariableRefused, ArgsWay}
 use Rattle.nodes.specs.Nodes.{At, IsExpr, IsExprs, IsPrimary, IsVariable}
 use Rattle.nodes.specs.declared.Node.{Node}
 use Rattle.nodes.specs.declared.Node.TheVariants.{Integer, Text, Name, Element, Component, Call, CallOn, Paren, Also}
@@ -75,7 +75,7 @@ module _ (d : ℕ) (s : List Symbol) (i used : ℕ) (ns : List Node) (h : i < le
     pub paren_refused : (f : Fault) → Refused Brackets d s i f → Refused (a_primary ∷ []) d s i f
     paren_refused f r α = paren_way α ∙ r α
 
-    pub made_paren : (ms : List Node) (e : Parsed) → e.used < length ms → Made 0 (Expr 5) IsExpr (of_brackets i) (Way Brackets d s i) s i used ns ms e → e.used + 2 * i < 2 * e.next + used → PrimaryMade d s i used ns (set ms e.used (Paren i e.root)) (record { next = e.next; used = e.used + 1; root = e.used })
+    pub made_paren : (ms : List Node) (e : Parsed) → e.used < length ms → Made 0 (Expr 5) IsExpr (of_brackets i) (Way Brackets d s i) s i used ns ms e → Fewer i used e → PrimaryMade d s i used ns (set ms e.used (Paren i e.root)) (record { next = e.next; used = e.used + 1; root = e.used })
     made_paren ms e r m few = grown 0 IsPrimary of_primary (Way (a_primary ∷ []) d s i) s i used ns ms e.used e.next (Paren i e.root) r (paren i m.tree) m.within m.more (omega (arith, few)) m.kept (λ g a. (e.root, m.below, a, keep_expr e.used ms _ g m.tree e.root m.below m.is)) m.text (λ α. paren_way α ∙ m.met α)
 
   module _ (q : get_or s i STOP ≡ NAME) where
@@ -157,7 +157,7 @@ module _ (b : Opening) (d : ℕ) (s : List Symbol) (i used : ℕ) (es ns : List 
     pub left_refused : (f : Fault) → Refused Brackets d s p.next f → VariableRefused b d s i f
     left_refused f r w α = m.met.0 w α ∙ index_way d s p.next (so_far b m.tree) m.met.1 h q w α ∙ r (parts w ∷ α)
 
-    pub left_goes : (ms : List Node) (e : Parsed) → e.used < length ms → Made 0 (Expr 5) IsExpr (of_brackets p.next) (Way Brackets d s p.next) s p.next p.used ns ms e → e.used + 2 * p.next < 2 * e.next + p.used → VariableMade b d s i used es (set ms e.used (Element p.root p.next e.root)) (record { next = e.next; used = e.used + 1; root = e.used })
+    pub left_goes : (ms : List Node) (e : Parsed) → e.used < length ms → Made 0 (Expr 5) IsExpr (of_brackets p.next) (Way Brackets d s p.next) s p.next p.used ns ms e → Fewer p.next p.used e → VariableMade b d s i used es (set ms e.used (Element p.root p.next e.root)) (record { next = e.next; used = e.used + 1; root = e.used })
     left_goes ms e r o few =
         grown 0 IsVariable of_variable (PartsWay b d s i) s i used es ms e.used e.next (Element p.root p.next e.root) r (element m.tree p.next o.tree) o.within (omega (arith, m.more, o.more)) (omega (arith, m.few, few))
         (agree_trans used p.used es ns ms m.more m.kept o.kept)

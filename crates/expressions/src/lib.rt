@@ -13,7 +13,7 @@ ghost use Rattle.nodes.proofs.Repeat.{ors_begin, conditions_begin};
 
 use grammar::Symbol;
 use nodes::lists::{Entries, read_list};
-use nodes::{Fault, Node, Parsed, Spot};
+use nodes::{Fault, Node, Parsed, Spot, put};
 
 /// How loosely an operator binds; 5, above them all, for any other terminal.
 // No Option: a level is compared with it at each turn of a loop, where one would be opened each time.
@@ -86,21 +86,21 @@ pub fn variable(from: Spot<'_>, nodes: &mut [Node], start: Parsed) -> Result<Par
                     ..from
                 };
                 let e = bracketed(bracket, nodes)?;
-                nodes[e.used] = Node::Element(at.root, at.next, e.root);
-                at = Parsed {
-                    next: e.next,
-                    used: e.used + 1,
-                    root: e.used,
-                };
+                at = put(
+                    nodes,
+                    e.used,
+                    Node::Element(at.root, at.next, e.root),
+                    e.next,
+                );
             }
             Symbol::Dot => {
                 from.expect(at.next + 1, Symbol::Name)?;
-                nodes[at.used] = Node::Component(at.root, at.next + 1);
-                at = Parsed {
-                    next: at.next + 2,
-                    used: at.used + 1,
-                    root: at.used,
-                };
+                at = put(
+                    nodes,
+                    at.used,
+                    Node::Component(at.root, at.next + 1),
+                    at.next + 2,
+                );
             }
             _ => return Ok(at),
         }
@@ -129,20 +129,15 @@ fn calls(from: Spot<'_>, nodes: &mut [Node], at: Parsed) -> Result<Parsed, Fault
             ..from
         };
         let e = expr(further, nodes)?;
-        nodes[e.used] = Node::Also(at.root, e.root);
-        at = Parsed {
-            next: e.next,
-            used: e.used + 1,
-            root: e.used,
-        };
+        at = put(nodes, e.used, Node::Also(at.root, e.root), e.next);
     }
     from.expect(at.next, Symbol::Right)?;
-    nodes[at.used] = Node::CallOn(from.next, from.next + 1, at.root);
-    Ok(Parsed {
-        next: at.next + 1,
-        used: at.used + 1,
-        root: at.used,
-    })
+    Ok(put(
+        nodes,
+        at.used,
+        Node::CallOn(from.next, from.next + 1, at.root),
+        at.next + 1,
+    ))
 }
 
 /// A form whose name is there, a bracket behind it.
@@ -156,30 +151,30 @@ fn applied(from: Spot<'_>, nodes: &mut [Node]) -> Result<Parsed, Fault>
 {
     let depth = from.deeper(from.next + 1)?;
     if from.peek(from.next + 2) == Symbol::Right {
-        nodes[from.used] = Node::Call(from.next, from.next + 1);
-        return Ok(Parsed {
-            next: from.next + 3,
-            used: from.used + 1,
-            root: from.used,
-        });
+        return Ok(put(
+            nodes,
+            from.used,
+            Node::Call(from.next, from.next + 1),
+            from.next + 3,
+        ));
     }
-    nodes[from.used] = Node::Name(from.next);
+    let name = put(nodes, from.used, Node::Name(from.next), from.next + 1);
     let first = Spot {
         next: from.next + 2,
         depth,
-        used: from.used + 1,
+        used: name.used,
         ..from
     };
     let e = expr(first, nodes)?;
     match from.peek(e.next) {
         Symbol::Comma => calls(from, nodes, e),
         Symbol::Right => {
-            nodes[e.used] = Node::Element(from.used, from.next + 1, e.root);
-            let at = Parsed {
-                next: e.next + 1,
-                used: e.used + 1,
-                root: e.used,
-            };
+            let at = put(
+                nodes,
+                e.used,
+                Node::Element(name.root, from.next + 1, e.root),
+                e.next + 1,
+            );
             variable(from, nodes, at)
         }
         _ => Err(Fault::Syntax(e.next)),
@@ -197,12 +192,7 @@ pub fn form(from: Spot<'_>, nodes: &mut [Node]) -> Result<Parsed, Fault>
     if from.peek(from.next + 1) == Symbol::Left {
         return applied(from, nodes);
     }
-    nodes[from.used] = Node::Name(from.next);
-    let at = Parsed {
-        next: from.next + 1,
-        used: from.used + 1,
-        root: from.used,
-    };
+    let at = put(nodes, from.used, Node::Name(from.next), from.next + 1);
     variable(from, nodes, at)
 }
 
@@ -213,31 +203,12 @@ fn primary(from: Spot<'_>, nodes: &mut [Node]) -> Result<Parsed, Fault>
     ensures { ReadsTo 0 Primary IsPrimary of_primary (a_primary ∷ []) from.entry nodes.old nodes.new result }
 {
     match from.peek(from.next) {
-        Symbol::Integer => {
-            nodes[from.used] = Node::Integer(from.next);
-            Ok(Parsed {
-                next: from.next + 1,
-                used: from.used + 1,
-                root: from.used,
-            })
-        }
-        Symbol::Text => {
-            nodes[from.used] = Node::Text(from.next);
-            Ok(Parsed {
-                next: from.next + 1,
-                used: from.used + 1,
-                root: from.used,
-            })
-        }
+        Symbol::Integer => Ok(put(nodes, from.used, Node::Integer(from.next), from.next + 1)),
+        Symbol::Text => Ok(put(nodes, from.used, Node::Text(from.next), from.next + 1)),
         Symbol::Name => form(from, nodes),
         Symbol::Left => {
             let e = bracketed(from, nodes)?;
-            nodes[e.used] = Node::Paren(from.next, e.root);
-            Ok(Parsed {
-                next: e.next,
-                used: e.used + 1,
-                root: e.used,
-            })
+            Ok(put(nodes, e.used, Node::Paren(from.next, e.root), e.next))
         }
         _ => Err(Fault::Syntax(from.next)),
     }
@@ -252,12 +223,12 @@ fn term(from: Spot<'_>, nodes: &mut [Node]) -> Result<Parsed, Fault>
     let end = from.next + monads(&from.symbols[from.next..]);
     let mut at = primary(Spot { next: end, ..from }, nodes)?;
     for k in (from.next..end).rev() {
-        nodes[at.used] = Node::Monadic(from.peek(k), k, at.root);
-        at = Parsed {
-            next: at.next,
-            used: at.used + 1,
-            root: at.used,
-        };
+        at = put(
+            nodes,
+            at.used,
+            Node::Monadic(from.peek(k), k, at.root),
+            at.next,
+        );
     }
     Ok(at)
 }
@@ -281,12 +252,12 @@ fn level(from: Spot<'_>, nodes: &mut [Node], n: usize) -> Result<Parsed, Fault>
             ..from
         };
         let e = level(operand, nodes, n - 1)?;
-        nodes[e.used] = Node::Dyadic(from.peek(at.next), at.next, at.root, e.root);
-        at = Parsed {
-            next: e.next,
-            used: e.used + 1,
-            root: e.used,
-        };
+        at = put(
+            nodes,
+            e.used,
+            Node::Dyadic(from.peek(at.next), at.next, at.root, e.root),
+            e.next,
+        );
     }
     Ok(at)
 }
@@ -332,12 +303,7 @@ fn comparison(from: Spot<'_>, nodes: &mut [Node]) -> Result<Parsed, Fault>
         ..from
     };
     let b = expr(right, nodes)?;
-    nodes[b.used] = Node::Compare(c, a.root, b.root);
-    Ok(Parsed {
-        next: b.next,
-        used: b.used + 1,
-        root: b.used,
-    })
+    Ok(put(nodes, b.used, Node::Compare(c, a.root, b.root), b.next))
 }
 
 /// Comparisons with AND between them.

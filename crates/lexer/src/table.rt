@@ -15,7 +15,7 @@ pub const MAX_ITEMS: usize = 4096;
 // No `ArrayVec`: it hides what stands behind its items, and `new` promises blanks there.
 #[derive(Clone, Copy)]
 pub struct ItemTable {
-    entries: [Entry; 4096],
+    entries: [Entry; MAX_ITEMS],
     count: usize,
     ghost few: { count ≤ 4096 },
 }

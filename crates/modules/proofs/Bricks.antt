@@ -8,7 +8,7 @@ use Rattle.grammar.specs.Machine.{Goal, refuse, tok, all, decs, maybe_fields, ma
 use Rattle.grammar.proofs.Steps.{items_here, step_at, refuse_at, refuses}
 use Rattle.nodes.proofs.Build.{grown, not_on, token_refused, fewer_is, more_is}
 use Rattle.nodes.proofs.Keep.{keep_many, keep_opt, keep_dec, keep_init, keep_value, keep_fields, keep_mode, keep_body, agree_trans}
-use Rattle.nodes.specs.Made.{at, Made, Way, Refused}
+use Rattle.nodes.specs.Made.{Fewer, at, Made, Way, Refused}
 use Rattle.nodes.specs.Nodes.{Agree, IsMany, IsOpt, IsInit, IsValue, IsDec, IsFields, IsMode, IsBrick}
 use Rattle.nodes.specs.declared.Node.{Node}
 use Rattle.nodes.specs.declared.Node.TheVariants as node
@@ -132,7 +132,7 @@ module _ (d : ℕ) (s : List Symbol) (i used : ℕ) (h : i < length s) (q : get_
               pub no_proc_semi : (get_or s e.next STOP ≡ SEMI → ⊥) → Refused (a_brick ∷ []) d s i (Syntax e.next)
               no_proc_semi n α = right_way α ∙ o.met (behind α) ∙ token_refused d SEMI (a_body ∷ tok ENDPROC ∷ α) s e.next n
 
-              pub made_head : e.next < length s → get_or s e.next STOP ≡ SEMI → e.used < length os → HeadMade d s i used ns (set os e.used (node.Heading (i + 1) (i + 2) p.root e.root)) (record { next = e.next + 1; used = e.used + 1; root = e.used }) × (e.used + 1 + 2 * i + 3 ≤ 2 * (e.next + 1) + used)
+              pub made_head : e.next < length s → get_or s e.next STOP ≡ SEMI → e.used < length os → HeadMade d s i used ns (set os e.used (node.Heading (i + 1) (i + 2) p.root e.root)) (record { next = e.next + 1; used = e.used + 1; root = e.used }) × Fewer (i + 1) used (record { next = e.next + 1; used = e.used + 1; root = e.used })
               made_head h₄ q₄ r = (
                 grown 0 (IsHead i) (of_head i) (HeadWay d s i) s i used ns os e.used (e.next + 1) (node.Heading (i + 1) (i + 2) p.root e.root) r (m.tree, o.tree) (omega arith) (omega (arith, m.more, o.more)) (omega (arith, m.few, o.few))
                     (agree_trans used p.used ns ms os m.more m.kept o.kept)
@@ -143,7 +143,7 @@ module _ (d : ℕ) (s : List Symbol) (i used : ℕ) (h : i < length s) (q : get_
               )
 
 -- a procedure
-module _ (d : ℕ) (s : List Symbol) (i used : ℕ) (ns ms : List Node) (p : Parsed) (m : HeadMade d s i used ns ms p) (few : p.used + 2 * i + 3 ≤ 2 * p.next + used) where
+module _ (d : ℕ) (s : List Symbol) (i used : ℕ) (ns ms : List Node) (p : Parsed) (m : HeadMade d s i used ns ms p) (few : Fewer (i + 1) used p) where
   module _ (os : List Node) (b : Parsed) (o : BodyMade d s p.next p.used ms os b) where
     pub made_procedure : b.next < length s → get_or s b.next STOP ≡ ENDPROC → b.used < length os → BrickMade d s i used ns (set os b.used (node.Procedure p.root b.root b.next)) (record { next = b.next + 1; used = b.used + 1; root = b.used }) × (b.used + 1 + 2 * i < 2 * (b.next + 1) + used)
     made_procedure h q r = (

@@ -6,7 +6,7 @@ ghost use Rattle.grammar.specs.Symbols.{among, STOP, COMMA, DATA, PROC, EXT, MOD
 ghost use Rattle.grammar.specs.Trees.{Opt, of_opt, Many, of_many, Dec, Fields, of_fields, Mode, of_mode, Brick, of_brick, Moditem, of_moditem, Module, of_module};
 ghost use Rattle.grammar.specs.Sentences.{fine, Made as MadeOf};
 ghost use Rattle.grammar.specs.Machine.{each, all, moditems, maybe_fields, maybe_mode, maybe_modes, a_brick, a_module, run};
-ghost use Rattle.nodes.specs.Made.{Made, Way, Refused, answer, Room, ReadsTo, ReadsFewer};
+ghost use Rattle.nodes.specs.Made.{Fewer, Made, Way, Refused, answer, Room, ReadsTo, ReadsFewer};
 ghost use Rattle.nodes.specs.Nodes.{IsOpt, IsMany, IsDec, IsFields, IsMode, IsBrick, IsModitem, IsModule};
 ghost use Rattle.declarations.specs.Declaring.{Listing, IsListing};
 ghost use Rattle.modules.specs.Bricks.{brick_firsts, Storing, of_storing, Head, of_head, IsHead, HeadWay};
@@ -17,7 +17,7 @@ use declarations::bricks::{decs, modes};
 use declarations::{Declares, Described, Stored, begins_mode, fields, mode, names};
 use grammar::Symbol;
 use nodes::lists::{Entries, read_list};
-use nodes::{Fault, Node, Parsed, Spot};
+use nodes::{Fault, Node, Parsed, Spot, put};
 use statements::bodies::body;
 
 /// How deep a module may nest.
@@ -35,12 +35,7 @@ fn maybe_fields(from: Spot<'_>, nodes: &mut [Node]) -> Result<Parsed, Fault>
     if begins_mode(from.peek(from.next)) {
         return fields(from, nodes);
     }
-    nodes[from.used] = Node::Absent;
-    Ok(Parsed {
-        next: from.next,
-        used: from.used + 1,
-        root: from.used,
-    })
+    Ok(put(nodes, from.used, Node::Absent, from.next))
 }
 
 /// A mode, or none.
@@ -52,12 +47,7 @@ fn maybe_mode(from: Spot<'_>, nodes: &mut [Node]) -> Result<Parsed, Fault>
     if begins_mode(from.peek(from.next)) {
         return mode(from, nodes);
     }
-    nodes[from.used] = Node::Absent;
-    Ok(Parsed {
-        next: from.next,
-        used: from.used + 1,
-        root: from.used,
-    })
+    Ok(put(nodes, from.used, Node::Absent, from.next))
 }
 
 /// Modes separated by commas, or none.
@@ -69,12 +59,7 @@ fn maybe_modes(from: Spot<'_>, nodes: &mut [Node]) -> Result<Parsed, Fault>
     if begins_mode(from.peek(from.next)) {
         return modes(from, nodes);
     }
-    nodes[from.used] = Node::Absent;
-    Ok(Parsed {
-        next: from.next,
-        used: from.used + 1,
-        root: from.used,
-    })
+    Ok(put(nodes, from.used, Node::Absent, from.next))
 }
 
 /// The name of a data brick, there, and its declarations up to ENDDATA.
@@ -109,12 +94,7 @@ fn data_brick(from: Spot<'_>, nodes: &mut [Node]) -> Result<Parsed, Fault>
         ..from
     };
     let d = storing(Stored, behind, nodes)?;
-    nodes[d.used] = Node::Store(from.next + 1, d.root);
-    Ok(Parsed {
-        next: d.next,
-        used: d.used + 1,
-        root: d.used,
-    })
+    Ok(put(nodes, d.used, Node::Store(from.next + 1, d.root), d.next))
 }
 
 /// A procedure up to its body, PROC being there.
@@ -122,7 +102,7 @@ fn heading(from: Spot<'_>, nodes: &mut [Node]) -> Result<Parsed, Fault>
     requires opening { slice_index_or from.symbols.now from.next STOP ≡ PROC }
     requires there { from.next < length from.symbols.now }
     requires room { Room 0 from nodes.old }
-    ensures { MatchResult result (λ p. Made 0 Head (IsHead from.entry.next) (of_head from.entry.next) (HeadWay from.entry.depth from.entry.symbols.now from.entry.next) from.entry.symbols.now from.entry.next from.entry.used nodes.old nodes.new p × (p.used + 2 * from.entry.next + 3 ≤ 2 * p.next + from.entry.used)) (λ f. Refused (a_brick ∷ []) from.entry.depth from.entry.symbols.now from.entry.next f) }
+    ensures { MatchResult result (λ p. Made 0 Head (IsHead from.entry.next) (of_head from.entry.next) (HeadWay from.entry.depth from.entry.symbols.now from.entry.next) from.entry.symbols.now from.entry.next from.entry.used nodes.old nodes.new p × Fewer (from.entry.next + 1) from.entry.used p) (λ f. Refused (a_brick ∷ []) from.entry.depth from.entry.symbols.now from.entry.next f) }
 {
     from.expect(from.next + 1, Symbol::Name)?;
     from.expect(from.next + 2, Symbol::Left)?;
@@ -141,12 +121,12 @@ fn heading(from: Spot<'_>, nodes: &mut [Node]) -> Result<Parsed, Fault>
     };
     let m = maybe_mode(behind, nodes)?;
     from.expect(m.next, Symbol::Semi)?;
-    nodes[m.used] = Node::Heading(from.next + 1, from.next + 2, f.root, m.root);
-    Ok(Parsed {
-        next: m.next + 1,
-        used: m.used + 1,
-        root: m.used,
-    })
+    Ok(put(
+        nodes,
+        m.used,
+        Node::Heading(from.next + 1, from.next + 2, f.root, m.root),
+        m.next + 1,
+    ))
 }
 
 /// A procedure, PROC being there.
@@ -164,12 +144,12 @@ fn procedure(from: Spot<'_>, nodes: &mut [Node]) -> Result<Parsed, Fault>
     };
     let b = body(behind, nodes)?;
     from.expect(b.next, Symbol::Endproc)?;
-    nodes[b.used] = Node::Procedure(h.root, b.root, b.next);
-    Ok(Parsed {
-        next: b.next + 1,
-        used: b.used + 1,
-        root: b.used,
-    })
+    Ok(put(
+        nodes,
+        b.used,
+        Node::Procedure(h.root, b.root, b.next),
+        b.next + 1,
+    ))
 }
 
 /// A data brick or a procedure.
@@ -214,12 +194,12 @@ fn external_procs(from: Spot<'_>, nodes: &mut [Node]) -> Result<Parsed, Fault>
         ..from
     };
     let n = names(Described, last, nodes)?;
-    nodes[n.used] = Node::ExternalProcs(from.next + 2, p.root, m.root, n.root);
-    Ok(Parsed {
-        next: n.next,
-        used: n.used + 1,
-        root: n.used,
-    })
+    Ok(put(
+        nodes,
+        n.used,
+        Node::ExternalProcs(from.next + 2, p.root, m.root, n.root),
+        n.next,
+    ))
 }
 
 /// A described data brick, EXT being there and DATA behind it.
@@ -235,12 +215,12 @@ fn external_store(from: Spot<'_>, nodes: &mut [Node]) -> Result<Parsed, Fault>
         ..from
     };
     let d = storing(Described, behind, nodes)?;
-    nodes[d.used] = Node::ExternalStore(from.next + 2, d.root);
-    Ok(Parsed {
-        next: d.next,
-        used: d.used + 1,
-        root: d.used,
-    })
+    Ok(put(
+        nodes,
+        d.used,
+        Node::ExternalStore(from.next + 2, d.root),
+        d.next,
+    ))
 }
 
 /// What is described as external, EXT being there.
@@ -274,12 +254,12 @@ fn record_mode(from: Spot<'_>, nodes: &mut [Node]) -> Result<Parsed, Fault>
     };
     let f = fields(inside, nodes)?;
     from.expect(f.next, Symbol::Right)?;
-    nodes[f.used] = Node::RecordMode(from.next + 1, from.next + 2, f.root);
-    Ok(Parsed {
-        next: f.next + 1,
-        used: f.used + 1,
-        root: f.used,
-    })
+    Ok(put(
+        nodes,
+        f.used,
+        Node::RecordMode(from.next + 1, from.next + 2, f.root),
+        f.next + 1,
+    ))
 }
 
 /// A brick that can be called from outside, ENT being there.
@@ -294,12 +274,7 @@ fn entered(from: Spot<'_>, nodes: &mut [Node]) -> Result<Parsed, Fault>
         ..from
     };
     let b = brick(behind, nodes)?;
-    nodes[b.used] = Node::Ent(b.root);
-    Ok(Parsed {
-        next: b.next,
-        used: b.used + 1,
-        root: b.used,
-    })
+    Ok(put(nodes, b.used, Node::Ent(b.root), b.next))
 }
 
 /// A brick of the module, which begins there.
@@ -310,12 +285,7 @@ fn own(from: Spot<'_>, nodes: &mut [Node]) -> Result<Parsed, Fault>
     ensures { ReadsTo 1 Moditem IsModitem of_moditem (each moditems ∷ []) from.entry nodes.old nodes.new result }
 {
     let b = brick(from, nodes)?;
-    nodes[b.used] = Node::Own(b.root);
-    Ok(Parsed {
-        next: b.next,
-        used: b.used + 1,
-        root: b.used,
-    })
+    Ok(put(nodes, b.used, Node::Own(b.root), b.next))
 }
 
 /// One item of a module; it may be empty.
@@ -329,14 +299,7 @@ fn moditem(from: Spot<'_>, nodes: &mut [Node]) -> Result<Parsed, Fault>
         Symbol::Mode => record_mode(from, nodes),
         Symbol::Ent => entered(from, nodes),
         Symbol::Data | Symbol::Proc => own(from, nodes),
-        _ => {
-            nodes[from.used] = Node::Blank;
-            Ok(Parsed {
-                next: from.next,
-                used: from.used + 1,
-                root: from.used,
-            })
-        }
+        _ => Ok(put(nodes, from.used, Node::Blank, from.next)),
     }
 }
 

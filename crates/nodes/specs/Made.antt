@@ -53,9 +53,13 @@ Reads x T Is of M F a ns ms r = MatchResult r (λ p. Made x T Is of (M a.depth a
 abbrev pub ReadsTo : (x : ℕ) (T : Type 0) → (T → List Node → ℕ → Type 0) → Spelling T → List Goal → Spot → List Node → List Node → Result Parsed Fault → Type 0
 ReadsTo x T Is of β a ns ms r = Reads x T Is of (Way β) (Refused β) a ns ms r
 
+-- What was read has fewer than two nodes to an item from the number i on.
+abbrev pub Fewer : ℕ → ℕ → Parsed → Type 0
+Fewer i used p = p.used + 2 * i < 2 * p.next + used
+
 -- the same, with fewer than two nodes to an item
 abbrev pub ReadsFewer : (x : ℕ) (T : Type 0) → (T → List Node → ℕ → Type 0) → Spelling T → (ℕ → List Symbol → ℕ → T → ℕ → Type 0) → (ℕ → List Symbol → ℕ → Fault → Type 0) → Spot → List Node → List Node → Result Parsed Fault → Type 0
-ReadsFewer x T Is of M F a ns ms r = MatchResult r (λ p. Made x T Is of (M a.depth a.symbols.now a.next) a.symbols.now a.next a.used ns ms p × (p.used + 2 * a.next < 2 * p.next + a.used)) (λ f. F a.depth a.symbols.now a.next f)
+ReadsFewer x T Is of M F a ns ms r = MatchResult r (λ p. Made x T Is of (M a.depth a.symbols.now a.next) a.symbols.now a.next a.used ns ms p × Fewer a.next a.used p) (λ f. F a.depth a.symbols.now a.next f)
 
 -- An expression of level n is followed by no operator of a lower level.
 abbrev pub rank : Symbol → ℕ

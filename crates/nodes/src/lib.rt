@@ -4,7 +4,7 @@
 pub mod lists;
 
 ghost use Rattle.nodes.specs.declared.Fault.TheVariants.{Syntax, Deep};
-ghost use Rattle.std.specs.Prelude.{MatchResult, ◌-◌, ◌≡◌, ◌<◌, length, ◌≢◌, slice_index_or};
+ghost use Rattle.std.specs.Prelude.{MatchResult, ◌-◌, ◌+◌, ◌≡◌, ◌<◌, length, ◌≢◌, slice_index_or, slice_set};
 ghost use Rattle.grammar.specs.Symbols.{STOP};
 
 use grammar::Symbol;
@@ -102,10 +102,12 @@ pub enum Fault {
     Deep(usize),
 }
 
-/// Where reading stands: the terminals of the module, the number of the next one, how many brackets may still open, and how many nodes are
-/// used.
+/// Where reading stands: the terminals of the module, the number of the next one, how much deeper it may still go (a bracket, BLOCK, IF and
+/// DO each go one deeper), and how many nodes are used.
 // That `next` is within the terminals is a clause, and no ghost field: of a struct with one, Rattle takes no literal with `..from` (tried), and
 // each spot that is made would name all its fields.
+// Where reading goes on is written out as `Spot { next: .., ..from }`: a method with these numbers as arguments would not say which of next,
+// depth and used moved.
 // The number of used nodes goes with the spot, and not with the table: a form may be read again from an earlier spot, and then its nodes
 // are overwritten with nothing to take back.
 #[derive(Clone, Copy)]
@@ -114,6 +116,20 @@ pub struct Spot<'s> {
     pub next: usize,
     pub depth: usize,
     pub used: usize,
+}
+
+/// Writes a node behind the used ones. It stands for what ends before the item `next`.
+pub fn put(nodes: &mut [Node], used: usize, node: Node, next: usize) -> Parsed
+    requires { used < length nodes.old }
+    ensures written { nodes.new ≡ slice_set nodes.old used node }
+    ensures is { result ≡ record { next = next; used = used + 1; root = used } }
+{
+    nodes[used] = node;
+    Parsed {
+        next,
+        used: used + 1,
+        root: used,
+    }
 }
 
 impl<'s> Spot<'s> {

@@ -4,7 +4,7 @@ ghost use Rattle.grammar.specs.Machine.{Goal, Repetition, Single, Whole, each, s
 ghost use Rattle.nodes.specs.Made.{Room, ReadsTo};
 ghost use Rattle.nodes.specs.Lists.{IsSingle, IsWhole, Begins};
 
-use crate::{Fault, Node, Parsed, Spot};
+use crate::{Fault, Node, Parsed, Spot, put};
 use grammar::Symbol;
 
 /// What a list of a module is made of.
@@ -45,12 +45,7 @@ pub fn read_list<L: Entries>(of: L, from: Spot<'_>, nodes: &mut [Node]) -> Resul
             ..from
         };
         let e = of.entry(next, nodes)?;
-        nodes[e.used] = Node::Also(at.root, e.root);
-        at = Parsed {
-            next: e.next,
-            used: e.used + 1,
-            root: e.used,
-        };
+        at = put(nodes, e.used, Node::Also(at.root, e.root), e.next);
     }
     Ok(at)
 }

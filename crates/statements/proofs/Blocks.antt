@@ -7,7 +7,7 @@ use Rattle.grammar.specs.Machine.{Goal, tok, all, ors, statements, an_expr, a_bo
 use Rattle.grammar.proofs.Steps.{items_here, step_at, sink_at, skip_at}
 use Rattle.nodes.proofs.Build.{grown, not_on, token_refused, alike, fewer_is, more_is}
 use Rattle.nodes.proofs.Keep.{keep_expr, keep_condition, keep_body, keep_sequence, keep_arms, agree_trans}
-use Rattle.nodes.specs.Made.{at, Made, Way, Refused}
+use Rattle.nodes.specs.Made.{Fewer, at, Made, Way, Refused}
 use Rattle.nodes.specs.Nodes.{Agree, IsExpr, IsCondition, IsBody, IsSequence, IsStatement, IsArms}
 use Rattle.nodes.specs.declared.Node.{Node}
 use Rattle.nodes.specs.declared.Node.TheVariants as node
@@ -98,11 +98,11 @@ module _ (d : ℕ) (s : List Symbol) (i used : ℕ) (h : i < length s) (q : get_
     pub first_arm_refused : (f : Fault) → Refused (all ors ∷ tok THEN ∷ all statements ∷ []) (d - 1) s (i + 1) f → Refused (a_statement ∷ []) d s i f
     first_arm_refused f r α = if_way α ∙ r (arms_on ∷ α)
 
-    pub first_arm : (ns ms : List Node) (p : Parsed) → ArmMade (d - 1) s (i + 1) used ns ms p → ArmsMade d s i used ms ms p × (p.used + 2 * i < 2 * p.next + used)
+    pub first_arm : (ns ms : List Node) (p : Parsed) → ArmMade (d - 1) s (i + 1) used ns ms p → ArmsMade d s i used ms ms p × Fewer i used p
     first_arm ns ms p m = (record { within = m.within; more = m.more; few = omega (arith, m.few); below = m.below; kept = λ j l. refl; tree = when m.tree.0 m.tree.1; is = m.is; text = items_here s i IF h q ∙ ap (λ (v : List Token). key IF ∷ v) m.text; met = λ α. if_way α ∙ m.met (arms_on ∷ α) }, omega (arith, m.few))
 
-module _ (d : ℕ) (s : List Symbol) (i used : ℕ) (es ns : List Node) (p : Parsed) (m : ArmsMade d s i used es ns p) (strict : p.used + 2 * i < 2 * p.next + used) where
-  pub arms_end : (os : List Node) → Agree used os es → ArmsMade d s i used os ns p × (p.used + 2 * i < 2 * p.next + used)
+module _ (d : ℕ) (s : List Symbol) (i used : ℕ) (es ns : List Node) (p : Parsed) (m : ArmsMade d s i used es ns p) (strict : Fewer i used p) where
+  pub arms_end : (os : List Node) → Agree used os es → ArmsMade d s i used os ns p × Fewer i used p
   arms_end os a = (record { within = m.within; more = m.more; few = m.few; below = m.below; kept = agree_trans used used os es ns (omega arith) a m.kept; tree = m.tree; is = m.is; text = m.text; met = m.met }, strict)
 
   module _ (h : p.next < length s) where

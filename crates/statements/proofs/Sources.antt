@@ -5,7 +5,7 @@ use Rattle.grammar.specs.Trees.{Many, more, Destination, Statement, assign, of_s
 use Rattle.grammar.specs.Machine.{Goal, a_source, a_statement, an_expr}
 use Rattle.nodes.proofs.Build.{grown}
 use Rattle.nodes.proofs.Keep.{agree_trans, keep_expr, keep_many, keep_destination}
-use Rattle.nodes.specs.Made.{at, Made, Way}
+use Rattle.nodes.specs.Made.{Fewer, at, Made, Way}
 use Rattle.nodes.specs.Nodes.{Agree, IsMany, IsDestination, IsStatement}
 use Rattle.nodes.specs.declared.Node.{Node}
 use Rattle.nodes.specs.declared.Node.TheVariants.{Also, Assign}
@@ -20,7 +20,7 @@ StatementMade d s i used ns ms p = Made 1 Statement IsStatement of_statement (Wa
 keep_targets : (n : ℕ) (ns ms : List Node) (g : Agree n ns ms) (t : Many Destination) (k : ℕ) → k < n → IsMany IsDestination t ns k → IsMany IsDestination t ms k
 keep_targets n ns ms g = keep_many n ns ms g IsDestination (keep_destination n ns ms g)
 
-module _ (d : ℕ) (s : List Symbol) (i used : ℕ) (os ns : List Node) (p : Parsed) (m : TargetsMade d s i used os ns p) (l : p.used + 2 * i < 2 * p.next + used) where
+module _ (d : ℕ) (s : List Symbol) (i used : ℕ) (os ns : List Node) (p : Parsed) (m : TargetsMade d s i used os ns p) (l : Fewer i used p) where
   pub targets_more : (ms : List Node) (e : Parsed) → e.used < length ms → Destined (TargetWay d s p.next) s p.next p.used ns ms e → TargetsMade d s i used os (set ms e.used (Also p.root e.root)) (record { next = e.next; used = e.used + 1; root = e.used }) × (e.used + 1 + 2 * i < 2 * e.next + used)
   targets_more ms e r (b, k) = (
     grown 0 (IsMany IsDestination) of_targets (TargetsWay d s i) s i used os ms e.used e.next (Also p.root e.root) r (more m.tree b.tree) b.within (omega (arith, m.more, b.more)) (omega (arith, l, k))

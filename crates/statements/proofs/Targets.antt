@@ -1,5 +1,5 @@
 -- Destinations that begin with VAL, and several, each with ':=' behind it, step by step. Assumes nothing.
-use Rattle.std.proofs.Common.{◌≡◌, ℕ, ◌+◌, ◌*◌, ◌<◌, List, [], ◌∷◌, ◌++◌, length, get_or, set, refl, ap, ◌∙◌, arith}
+use Rattle.std.proofs.Common.{◌≡◌, ℕ, ◌+◌, ◌<◌, List, [], ◌∷◌, ◌++◌, length, get_or, set, refl, ap, ◌∙◌, arith}
 use Rattle.grammar.specs.Symbols.{STOP, NAME, VAL, LEFT, DOT, BECOMES}
 use Rattle.grammar.specs.declared.Symbol.{Symbol}
 use Rattle.grammar.specs.Trees.{Token, token, Many, one, name, of_variable, Destination, val}
@@ -7,7 +7,7 @@ use Rattle.grammar.specs.Machine.{Goal, refuse, mapped, no_parts, tok, parts, st
 use Rattle.grammar.proofs.Steps.{items_here, step_at, refuse_at, refuses}
 use Rattle.nodes.proofs.Build.{grown, not_on}
 use Rattle.nodes.proofs.Keep.{keep_variable}
-use Rattle.nodes.specs.Made.{at, Made, Refused, by_val, PartsWay, VariableRefused}
+use Rattle.nodes.specs.Made.{Fewer, at, Made, Refused, by_val, PartsWay, VariableRefused}
 use Rattle.nodes.specs.Nodes.{IsMany, IsVariable, IsDestination}
 use Rattle.nodes.specs.declared.Node.{Node}
 use Rattle.nodes.specs.declared.Node.TheVariants.{Name, Val}
@@ -19,7 +19,7 @@ use Rattle.statements.specs.Assigning.{of_target, of_targets, TargetsWay, Target
 
 -- a destination that meets M, with fewer than two nodes to an item
 abbrev pub Destined : (Destination → ℕ → Type 0) → List Symbol → ℕ → ℕ → List Node → List Node → Parsed → Type 0
-Destined M s i used ns ms p = Made 0 Destination IsDestination of_target M s i used ns ms p × (p.used + 2 * i < 2 * p.next + used)
+Destined M s i used ns ms p = Made 0 Destination IsDestination of_target M s i used ns ms p × Fewer i used p
 
 abbrev pub TargetsMade : ℕ → List Symbol → ℕ → ℕ → List Node → List Node → Parsed → Type 0
 TargetsMade d s i used ns ms p = Made 0 (Many Destination) (IsMany IsDestination) of_targets (TargetsWay d s i) s i used ns ms p

@@ -1,10 +1,10 @@
 -- What the functions that read assignments and calls answer. Assumes nothing.
-use Rattle.std.specs.Prelude.{◌≡◌, ℕ, ◌+◌, ◌*◌, ◌<◌, List, ◌∷◌, Some, None, Option}
+use Rattle.std.specs.Prelude.{◌≡◌, ℕ, ◌+◌, ◌<◌, List, ◌∷◌, Some, None, Option}
 use Rattle.grammar.specs.Symbols.{BECOMES, NAME}
 use Rattle.grammar.specs.declared.Symbol.{Symbol}
 use Rattle.grammar.specs.Trees.{Token, key, Many, of_many, Destination, of_destination, Primary, integer, text, variable, call, call_on, paren, Variable, name, element, Expr, Exprs, comma}
 use Rattle.grammar.specs.Machine.{Goal, tok, parts, start, a_statement, a_source, an_expr, Seen, just_name, one_index, longer, seen}
-use Rattle.nodes.specs.Made.{at, Made}
+use Rattle.nodes.specs.Made.{Fewer, at, Made}
 use Rattle.nodes.specs.Nodes.{Agree, IsDestination, IsExpr, IsExprs}
 use Rattle.nodes.specs.declared.Node.{Node}
 use Rattle.nodes.specs.declared.Node.TheVariants.{Invoke, InvokeOn}
@@ -68,5 +68,5 @@ ValWay d s i t j = (α : List Goal) → at d (tok NAME ∷ parts start ∷ α) s
 
 -- behind ':=', at i: one more destination with its ':=', or an expression
 abbrev pub Onward : ℕ → List Symbol → ℕ → ℕ → List Node → List Node → Option Parsed → Type 0
-Onward d s i used ns ms (Some p) = Made 0 Destination IsDestination of_target (TargetWay d s i) s i used ns ms p × (p.used + 2 * i < 2 * p.next + used)
+Onward d s i used ns ms (Some p) = Made 0 Destination IsDestination of_target (TargetWay d s i) s i used ns ms p × Fewer i used p
 Onward d s i used ns ms None = ((α : List Goal) → at d (a_source ∷ α) s i ≡ at d (an_expr ∷ α) s i) × Agree used ns ms

@@ -1,6 +1,6 @@
 //! Reading assignments and calls of procedures into nodes.
 ghost use Rattle.std.specs.Prelude.{◌≡◌, ◌+◌, ◌*◌, ◌<◌, ◌≤◌, [], ◌∷◌, length, MatchResult, slice_index_or};
-ghost use Rattle.nodes.specs.Made.{Made, Way, Refused, by_val, VariableWay, VariableRefused, Room, ReadsTo, Reads, ReadsFewer};
+ghost use Rattle.nodes.specs.Made.{Fewer, Made, Way, Refused, by_val, VariableWay, VariableRefused, Room, ReadsTo, Reads, ReadsFewer};
 ghost use Rattle.nodes.specs.Nodes.{IsMany, IsPrimary, IsVariable, IsDestination, IsStatement, blank_node};
 ghost use Rattle.grammar.specs.Symbols.{Says, STOP, NAME, BECOMES, VAL};
 ghost use Rattle.grammar.specs.Trees.{Many, Primary, Variable, Destination, Statement, of_variable, of_statement};
@@ -9,7 +9,7 @@ ghost use Rattle.statements.specs.Assigning.{Form, Shows, IsPlace, invocation as
 
 use expressions::{expr, form, variable};
 use grammar::Symbol;
-use nodes::{Fault, Node, Parsed, Spot};
+use nodes::{Fault, Node, Parsed, Spot, put};
 
 /// What a form is that begins with a name: a call, by its name, bracket and expressions; a name with one index, which may be a call
 /// with one expression or a destination; or any other variable, which can only be a destination.
@@ -69,12 +69,7 @@ fn val_variable(from: Spot<'_>, nodes: &mut [Node]) -> Result<Parsed, Fault>
     requires room { Room 0 from nodes.old }
     ensures { Reads 0 Variable IsVariable of_variable (VariableWay by_val) (VariableRefused by_val) from.entry nodes.old nodes.new result }
 {
-    nodes[from.used] = Node::Name(from.next);
-    let name = Parsed {
-        next: from.next + 1,
-        used: from.used + 1,
-        root: from.used,
-    };
+    let name = put(nodes, from.used, Node::Name(from.next), from.next + 1);
     variable(from, nodes, name)
 }
 
@@ -92,12 +87,7 @@ fn val_target(from: Spot<'_>, nodes: &mut [Node]) -> Result<Parsed, Fault>
     };
     let v = val_variable(behind, nodes)?;
     from.expect(v.next, Symbol::Becomes)?;
-    nodes[v.used] = Node::Val(from.next, v.root);
-    Ok(Parsed {
-        next: v.next + 1,
-        used: v.used + 1,
-        root: v.used,
-    })
+    Ok(put(nodes, v.used, Node::Val(from.next, v.root), v.next + 1))
 }
 
 /// Behind a ':=', there: one more destination with the ':=' behind it, or nothing where an expression is.
@@ -125,7 +115,7 @@ fn destination(from: Spot<'_>, nodes: &mut [Node]) -> Result<Option<Parsed>, Fau
 fn assignment(from: Spot<'_>, nodes: &mut [Node], first: Parsed) -> Result<Parsed, Fault>
     requires room { Room 0 from nodes.old }
     requires begun { Made 0 (Many Destination) (IsMany IsDestination) of_targets (TargetsWay from.depth from.symbols.now from.next) from.symbols.now from.next from.used nodes.old nodes.old first }
-    requires few { first.used + 2 * from.next < 2 * first.next + from.used }
+    requires few { Fewer from.next from.used first }
     ensures { ReadsTo 1 Statement IsStatement of_statement (a_statement ∷ []) from.entry nodes.old nodes.new result }
 {
     let mut at = first;
@@ -137,12 +127,7 @@ fn assignment(from: Spot<'_>, nodes: &mut [Node], first: Parsed) -> Result<Parse
         },
         nodes,
     )? {
-        nodes[d.used] = Node::Also(at.root, d.root);
-        at = Parsed {
-            next: d.next,
-            used: d.used + 1,
-            root: d.used,
-        };
+        at = put(nodes, d.used, Node::Also(at.root, d.root), d.next);
     }
     let behind = Spot {
         next: at.next,
@@ -150,12 +135,7 @@ fn assignment(from: Spot<'_>, nodes: &mut [Node], first: Parsed) -> Result<Parse
         ..from
     };
     let e = expr(behind, nodes)?;
-    nodes[e.used] = Node::Assign(at.root, e.root);
-    Ok(Parsed {
-        next: e.next,
-        used: e.used + 1,
-        root: e.used,
-    })
+    Ok(put(nodes, e.used, Node::Assign(at.root, e.root), e.next))
 }
 
 /// A statement that begins with VAL there.
@@ -185,10 +165,6 @@ pub fn named(from: Spot<'_>, nodes: &mut [Node]) -> Result<Parsed, Fault>
         };
         return assignment(from, nodes, first);
     }
-    nodes[f.used] = invocation(shape).ok_or(Fault::Syntax(f.next))?;
-    Ok(Parsed {
-        next: f.next,
-        used: f.used + 1,
-        root: f.used,
-    })
+    let call = invocation(shape).ok_or(Fault::Syntax(f.next))?;
+    Ok(put(nodes, f.used, call, f.next))
 }

@@ -3,7 +3,7 @@ ghost use Rattle.std.specs.Prelude.{◌≡◌, ℕ, ◌+◌, ◌-◌, ◌*◌, �
 ghost use Rattle.grammar.specs.Symbols.{STOP, BLOCK, IF, TO, WHILE, RETURN, THEN, ELSE, ELSEIF};
 ghost use Rattle.grammar.specs.Trees.{Body, Sequence, Statement, Arms, of_body, of_sequence, of_statement, of_arms};
 ghost use Rattle.grammar.specs.Machine.{a_body, a_statement, all, ors, statements, tok};
-ghost use Rattle.nodes.specs.Made.{Made, Way, Refused, Room, ReadsTo};
+ghost use Rattle.nodes.specs.Made.{Fewer, Made, Way, Refused, Room, ReadsTo};
 ghost use Rattle.nodes.specs.Nodes.{IsBody, IsSequence, IsStatement, IsArms};
 ghost use Rattle.statements.specs.Bodies.{Arm, IsArm, of_arm, ArmsWay};
 
@@ -11,7 +11,7 @@ use crate::assignments::{named, valued};
 use declarations::locals::locals;
 use expressions::{bracketed, condition, expr};
 use grammar::Symbol;
-use nodes::{Fault, Node, Parsed, Spot};
+use nodes::{Fault, Node, Parsed, Spot, put};
 
 /// Declarations of locals, and then statements.
 #[cycle(statements)]
@@ -27,12 +27,7 @@ pub fn body(from: Spot<'_>, nodes: &mut [Node]) -> Result<Parsed, Fault>
         ..from
     };
     let q = sequence(behind, nodes)?;
-    nodes[q.used] = Node::Body(l.root, q.root);
-    Ok(Parsed {
-        next: q.next,
-        used: q.used + 1,
-        root: q.used,
-    })
+    Ok(put(nodes, q.used, Node::Body(l.root, q.root), q.next))
 }
 
 /// One statement, and further ones behind semicolons.
@@ -52,12 +47,7 @@ fn sequence(from: Spot<'_>, nodes: &mut [Node]) -> Result<Parsed, Fault>
             ..from
         };
         let e = statement(behind, nodes)?;
-        nodes[e.used] = Node::Also(at.root, e.root);
-        at = Parsed {
-            next: e.next,
-            used: e.used + 1,
-            root: e.used,
-        };
+        at = put(nodes, e.used, Node::Also(at.root, e.root), e.next);
     }
     Ok(at)
 }
@@ -76,14 +66,7 @@ fn statement(from: Spot<'_>, nodes: &mut [Node]) -> Result<Parsed, Fault>
         Symbol::Return => returning(from, nodes),
         Symbol::Val => valued(from, nodes),
         Symbol::Name => named(from, nodes),
-        _ => {
-            nodes[from.used] = Node::Dummy;
-            Ok(Parsed {
-                next: from.next,
-                used: from.used + 1,
-                root: from.used,
-            })
-        }
+        _ => Ok(put(nodes, from.used, Node::Dummy, from.next)),
     }
 }
 
@@ -103,12 +86,7 @@ fn block(from: Spot<'_>, nodes: &mut [Node]) -> Result<Parsed, Fault>
     };
     let b = body(inside, nodes)?;
     from.expect(b.next, Symbol::Endblock)?;
-    nodes[b.used] = Node::Block(b.root);
-    Ok(Parsed {
-        next: b.next + 1,
-        used: b.used + 1,
-        root: b.used,
-    })
+    Ok(put(nodes, b.used, Node::Block(b.root), b.next + 1))
 }
 
 /// A condition there, THEN, and the statements that are obeyed where it holds.
@@ -126,12 +104,7 @@ fn arm(from: Spot<'_>, nodes: &mut [Node]) -> Result<Parsed, Fault>
         ..from
     };
     let q = sequence(behind, nodes)?;
-    nodes[q.used] = Node::When(c.root, q.root);
-    Ok(Parsed {
-        next: q.next,
-        used: q.used + 1,
-        root: q.used,
-    })
+    Ok(put(nodes, q.used, Node::When(c.root, q.root), q.next))
 }
 
 /// IF, being there, and what follows it up to ELSE or END, ELSEIF included.
@@ -141,7 +114,7 @@ fn arms(from: Spot<'_>, nodes: &mut [Node]) -> Result<Parsed, Fault>
     requires there { from.next < length from.symbols.now }
     requires deep { 0 < from.depth }
     requires room { Room 0 from nodes.old }
-    ensures { MatchResult result (λ p. Made 0 Arms IsArms of_arms (ArmsWay from.entry.depth from.entry.symbols.now from.entry.next) from.entry.symbols.now from.entry.next from.entry.used nodes.old nodes.new p × (p.used + 2 * from.entry.next < 2 * p.next + from.entry.used) × (slice_index_or from.entry.symbols.now p.next STOP ≢ ELSEIF)) (λ f. Refused (a_statement ∷ []) from.entry.depth from.entry.symbols.now from.entry.next f) }
+    ensures { MatchResult result (λ p. Made 0 Arms IsArms of_arms (ArmsWay from.entry.depth from.entry.symbols.now from.entry.next) from.entry.symbols.now from.entry.next from.entry.used nodes.old nodes.new p × Fewer from.entry.next from.entry.used p × (slice_index_or from.entry.symbols.now p.next STOP ≢ ELSEIF)) (λ f. Refused (a_statement ∷ []) from.entry.depth from.entry.symbols.now from.entry.next f) }
 {
     let inside = Spot {
         next: from.next + 1,
@@ -156,12 +129,7 @@ fn arms(from: Spot<'_>, nodes: &mut [Node]) -> Result<Parsed, Fault>
             ..inside
         };
         let a = arm(behind, nodes)?;
-        nodes[a.used] = Node::Also(at.root, a.root);
-        at = Parsed {
-            next: a.next,
-            used: a.used + 1,
-            root: a.used,
-        };
+        at = put(nodes, a.used, Node::Also(at.root, a.root), a.next);
     }
     Ok(at)
 }
@@ -173,7 +141,7 @@ fn otherwise(from: Spot<'_>, nodes: &mut [Node], at: Parsed) -> Result<Parsed, F
     requires there { at.next < length from.symbols.now }
     requires deep { 0 < from.depth }
     requires room { Room 1 from nodes.old }
-    requires few { at.used + 2 * from.next < 2 * at.next + from.used }
+    requires few { Fewer from.next from.used at }
     requires begun { Made 0 Arms IsArms of_arms (ArmsWay from.depth from.symbols.now from.next) from.symbols.now from.next from.used nodes.old nodes.old at }
     ensures { ReadsTo 1 Statement IsStatement of_statement (a_statement ∷ []) from.entry nodes.old nodes.new result }
 {
@@ -185,12 +153,7 @@ fn otherwise(from: Spot<'_>, nodes: &mut [Node], at: Parsed) -> Result<Parsed, F
     };
     let q = sequence(inside, nodes)?;
     from.expect(q.next, Symbol::End)?;
-    nodes[q.used] = Node::BranchElse(at.root, q.root);
-    Ok(Parsed {
-        next: q.next + 1,
-        used: q.used + 1,
-        root: q.used,
-    })
+    Ok(put(nodes, q.used, Node::BranchElse(at.root, q.root), q.next + 1))
 }
 
 /// A branch, IF being there.
@@ -204,14 +167,7 @@ fn branch(from: Spot<'_>, nodes: &mut [Node]) -> Result<Parsed, Fault>
     let _ = from.deeper(from.next)?;
     let w = arms(from, nodes)?;
     match from.peek(w.next) {
-        Symbol::End => {
-            nodes[w.used] = Node::Branch(w.root);
-            Ok(Parsed {
-                next: w.next + 1,
-                used: w.used + 1,
-                root: w.used,
-            })
-        }
+        Symbol::End => Ok(put(nodes, w.used, Node::Branch(w.root), w.next + 1)),
         Symbol::Else => otherwise(from, nodes, w),
         _ => Err(Fault::Syntax(w.next)),
     }
@@ -240,12 +196,7 @@ fn repeat(from: Spot<'_>, nodes: &mut [Node]) -> Result<Parsed, Fault>
     };
     let b = body(inside, nodes)?;
     from.expect(b.next, Symbol::Rep)?;
-    nodes[b.used] = Node::Repeat(e.root, b.root);
-    Ok(Parsed {
-        next: b.next + 1,
-        used: b.used + 1,
-        root: b.used,
-    })
+    Ok(put(nodes, b.used, Node::Repeat(e.root, b.root), b.next + 1))
 }
 
 /// A loop that goes on while a condition holds, WHILE being there.
@@ -271,12 +222,7 @@ fn while_loop(from: Spot<'_>, nodes: &mut [Node]) -> Result<Parsed, Fault>
     };
     let q = sequence(inside, nodes)?;
     from.expect(q.next, Symbol::Rep)?;
-    nodes[q.used] = Node::Loop(c.root, q.root);
-    Ok(Parsed {
-        next: q.next + 1,
-        used: q.used + 1,
-        root: q.used,
-    })
+    Ok(put(nodes, q.used, Node::Loop(c.root, q.root), q.next + 1))
 }
 
 /// RETURN, being there, with an expression in brackets or without.
@@ -287,22 +233,17 @@ fn returning(from: Spot<'_>, nodes: &mut [Node]) -> Result<Parsed, Fault>
     ensures { ReadsTo 1 Statement IsStatement of_statement (a_statement ∷ []) from.entry nodes.old nodes.new result }
 {
     if from.peek(from.next + 1) != Symbol::Left {
-        nodes[from.used] = Node::Return(from.next);
-        return Ok(Parsed {
-            next: from.next + 1,
-            used: from.used + 1,
-            root: from.used,
-        });
+        return Ok(put(nodes, from.used, Node::Return(from.next), from.next + 1));
     }
     let behind = Spot {
         next: from.next + 1,
         ..from
     };
     let e = bracketed(behind, nodes)?;
-    nodes[e.used] = Node::ReturnWith(from.next, from.next + 1, e.root);
-    Ok(Parsed {
-        next: e.next,
-        used: e.used + 1,
-        root: e.used,
-    })
+    Ok(put(
+        nodes,
+        e.used,
+        Node::ReturnWith(from.next, from.next + 1, e.root),
+        e.next,
+    ))
 }

@@ -24,7 +24,7 @@ pub const MAX_NODES: usize = 8193;
 // Of a fixed size, and no `ArrayVec`: the library has no heap, and reading says in the spot how many are used.
 #[derive(Clone, Copy)]
 pub struct NodeTable {
-    pub nodes: [Node; 8193],
+    pub nodes: [Node; MAX_NODES],
 }
 
 impl NodeTable {
@@ -33,7 +33,7 @@ impl NodeTable {
         ensures { result.nodes ≡ replicate 8193 blank_node }
     {
         NodeTable {
-            nodes: [Node::Integer(0); 8193],
+            nodes: [Node::Integer(0); MAX_NODES],
         }
     }
 }

@@ -13,7 +13,7 @@ pub list-returns-then-eq : goal.list-returns-then-eq
 list-returns-then-eq t c =
     let e = (said _ _ _ c.if-eq.ensures) in
     let h = c.peek.ensures.there (far RIGHT _ refl e) in
-    made_empty c.args.from.depth c.args.from.symbols.now c.args.from.next c.args.from.used c.args.nodes.now c.requires.there c.requires.opening c.in_ok-depth.ensures.1 h (sym c.peek.ensures.is ∙ e) (omega (arith, h))
+    rw (c.put.ensures.written, c.put.ensures.is) (made_empty c.args.from.depth c.args.from.symbols.now c.args.from.next c.args.from.used c.args.nodes.now c.requires.there c.requires.opening c.in_ok-depth.ensures.1 h (sym c.peek.ensures.is ∙ e) (omega (arith, h)))
 
 pub list-returns-in_err-v : goal.list-returns-in_err-v
 list-returns-in_err-v t c =
@@ -32,7 +32,7 @@ list-returns t c =
     let e = c.in_ok-expect.ensures in
     let h = inside _ _ RIGHT refl e in
     let m = subst (λ d. ValuesMade d c.args.from.symbols.now (c.args.from.next + 1) c.args.from.used c.args.nodes.now c.values.new.nodes c.in_ok-v.v) c.in_ok-depth.ensures.0 c.in_ok-v.ensures in
-    made_list c.args.from.depth c.args.from.symbols.now c.args.from.next c.args.from.used c.args.nodes.now c.requires.there c.requires.opening c.in_ok-depth.ensures.1 (λ e. (said _ _ _ c.if-eq.ensures) (c.peek.ensures.is ∙ e)) _ c.in_ok-v.v m h e (omega (arith, h, m.within, m.few))
+    rw (c.put-2.ensures.written, c.put-2.ensures.is) (made_list c.args.from.depth c.args.from.symbols.now c.args.from.next c.args.from.used c.args.nodes.now c.requires.there c.requires.opening c.in_ok-depth.ensures.1 (λ e. (said _ _ _ c.if-eq.ensures) (c.peek.ensures.is ∙ e)) _ c.in_ok-v.v m h e (omega (arith, h, m.within, m.few)))
 
 pub entry-returns-in_err-v : goal.entry-returns-in_err-v
 entry-returns-in_err-v t c =
@@ -75,7 +75,7 @@ entry-returns t c =
     let k = inside _ _ INTEGER refl x in
     let y = c.in_ok-expect-2.ensures in
     let l = inside _ _ RIGHT refl y in
-    made_repeated c.args.from.depth c.args.from.symbols.now c.args.from.next c.args.from.used _ _ c.in_ok-v.v c.in_ok-v.ensures h (sym c.peek.ensures.is ∙ e) c.in_ok-deeper.ensures.1 k x l y (omega (arith, l, c.in_ok-v.ensures))
+    rw (c.put.ensures.written, c.put.ensures.is) (made_repeated c.args.from.depth c.args.from.symbols.now c.args.from.next c.args.from.used _ _ c.in_ok-v.v c.in_ok-v.ensures h (sym c.peek.ensures.is ∙ e) c.in_ok-deeper.ensures.1 k x l y (omega (arith, l, c.in_ok-v.ensures)))
 
 pub values-returns-in_err-at : goal.values-returns-in_err-at
 values-returns-in_err-at t c =
@@ -94,7 +94,7 @@ values-returns-in_err-e t c =
 pub values-loop-behind-preserved : goal.values-loop-behind-preserved
 values-loop-behind-preserved t c =
     let e = (said _ _ _ c.loop-behind-test.ensures) in
-    goes 0 (omega arith) entries (all entries) entries_begin c.args.from.depth c.args.from.symbols.now c.args.from.next c.args.from.used _ _ c.loop-behind.at c.loop-behind.invariant (c.peek.ensures.there (far COMMA _ refl e)) (sym c.peek.ensures.is ∙ e) _ c.in_ok-e.e (omega (arith, c.in_ok-e.ensures)) c.in_ok-e.ensures
+    rw (c.put-at.ensures.written, c.put-at.ensures.is) (goes 0 (omega arith) entries (all entries) entries_begin c.args.from.depth c.args.from.symbols.now c.args.from.next c.args.from.used _ _ c.loop-behind.at c.loop-behind.invariant (c.peek.ensures.there (far COMMA _ refl e)) (sym c.peek.ensures.is ∙ e) _ c.in_ok-e.e (omega (arith, c.in_ok-e.ensures)) c.in_ok-e.ensures)
 
 pub values-returns : goal.values-returns
 values-returns t c = ends 0 (omega arith) entries (all entries) entries_begin c.args.from.depth c.args.from.symbols.now c.args.from.next c.args.from.used _ _ c.loop-behind.at c.loop-behind.invariant _ c.in_ok-at.ensures.kept (λ e. (said _ _ _ c.loop-behind-test.ensures) (c.peek.ensures.is ∙ e))
@@ -103,19 +103,19 @@ pub value-returns-in-Integer : goal.value-returns-in-Integer
 value-returns-in-Integer t c =
     let n = c.in-Integer.ensures in
     let h = n.there (far INTEGER _ refl refl) in
-    made_constant c.args.from.depth c.args.from.symbols.now c.args.from.next c.args.from.used c.args.nodes.now h (sym n.is) (omega (arith, h))
+    rw (c.put.ensures.written, c.put.ensures.is) (made_constant c.args.from.depth c.args.from.symbols.now c.args.from.next c.args.from.used c.args.nodes.now h (sym n.is) (omega (arith, h)))
 
 pub value-returns-in-Name : goal.value-returns-in-Name
 value-returns-in-Name t c =
     let n = c.in-Name.ensures in
     let h = n.there (far NAME _ refl refl) in
-    made_identifier c.args.from.depth c.args.from.symbols.now c.args.from.next c.args.from.used c.args.nodes.now h (sym n.is) (omega (arith, h))
+    rw (c.put-in-Name.ensures.written, c.put-in-Name.ensures.is) (made_identifier c.args.from.depth c.args.from.symbols.now c.args.from.next c.args.from.used c.args.nodes.now h (sym n.is) (omega (arith, h)))
 
 pub value-returns-in-Text : goal.value-returns-in-Text
 value-returns-in-Text t c =
     let n = c.in-Text.ensures in
     let h = n.there (far TEXT _ refl refl) in
-    made_literal c.args.from.depth c.args.from.symbols.now c.args.from.next c.args.from.used c.args.nodes.now h (sym n.is) (omega (arith, h))
+    rw (c.put-in-Text.ensures.written, c.put-in-Text.ensures.is) (made_literal c.args.from.depth c.args.from.symbols.now c.args.from.next c.args.from.used c.args.nodes.now h (sym n.is) (omega (arith, h)))
 
 pub value-returns-in_default : goal.value-returns-in_default
 value-returns-in_default t c =

@@ -10,12 +10,12 @@ use Rattle.declarations.proofs.+modes.Goals as goal
 pub mode-returns-in-Int : goal.mode-returns-in-Int
 mode-returns-in-Int t c =
     let n = c.in-Int.ensures in
-    made_int c.args.from.depth c.args.from.symbols.now c.args.from.next c.args.from.used c.args.nodes.now (n.there (far INT _ refl refl)) (sym n.is) (omega (arith, n.there (far INT _ refl refl)))
+    rw (c.put.ensures.written, c.put.ensures.is) (made_int c.args.from.depth c.args.from.symbols.now c.args.from.next c.args.from.used c.args.nodes.now (n.there (far INT _ refl refl)) (sym n.is) (omega (arith, n.there (far INT _ refl refl))))
 
 pub mode-returns-in-Byte : goal.mode-returns-in-Byte
 mode-returns-in-Byte t c =
     let n = c.in-Byte.ensures in
-    made_byte c.args.from.depth c.args.from.symbols.now c.args.from.next c.args.from.used c.args.nodes.now (n.there (far BYTE _ refl refl)) (sym n.is) (omega (arith, n.there (far BYTE _ refl refl)))
+    rw (c.put-in-Byte.ensures.written, c.put-in-Byte.ensures.is) (made_byte c.args.from.depth c.args.from.symbols.now c.args.from.next c.args.from.used c.args.nodes.now (n.there (far BYTE _ refl refl)) (sym n.is) (omega (arith, n.there (far BYTE _ refl refl))))
 
 pub mode-returns-in_default : goal.mode-returns-in_default
 mode-returns-in_default t c =
@@ -26,19 +26,19 @@ pub reference-returns-in-Int : goal.reference-returns-in-Int
 reference-returns-in-Int t c =
     let n = c.in-Int.ensures in
     let h = n.there (far INT _ refl refl) in
-    made_ref_int c.args.from.depth c.args.from.symbols.now c.args.from.next c.args.from.used c.args.nodes.now c.requires.there c.requires.refers h (sym n.is) (omega (arith, h))
+    rw (c.put.ensures.written, c.put.ensures.is) (made_ref_int c.args.from.depth c.args.from.symbols.now c.args.from.next c.args.from.used c.args.nodes.now c.requires.there c.requires.refers h (sym n.is) (omega (arith, h)))
 
 pub reference-returns-in-Byte : goal.reference-returns-in-Byte
 reference-returns-in-Byte t c =
     let n = c.in-Byte.ensures in
     let h = n.there (far BYTE _ refl refl) in
-    made_ref_byte c.args.from.depth c.args.from.symbols.now c.args.from.next c.args.from.used c.args.nodes.now c.requires.there c.requires.refers h (sym n.is) (omega (arith, h))
+    rw (c.put-in-Byte.ensures.written, c.put-in-Byte.ensures.is) (made_ref_byte c.args.from.depth c.args.from.symbols.now c.args.from.next c.args.from.used c.args.nodes.now c.requires.there c.requires.refers h (sym n.is) (omega (arith, h)))
 
 pub reference-returns-in-Name : goal.reference-returns-in-Name
 reference-returns-in-Name t c =
     let n = c.in-Name.ensures in
     let h = n.there (far NAME _ refl refl) in
-    made_ref_record c.args.from.depth c.args.from.symbols.now c.args.from.next c.args.from.used c.args.nodes.now c.requires.there c.requires.refers h (sym n.is) (omega (arith, h))
+    rw (c.put-in-Name.ensures.written, c.put-in-Name.ensures.is) (made_ref_record c.args.from.depth c.args.from.symbols.now c.args.from.next c.args.from.used c.args.nodes.now c.requires.there c.requires.refers h (sym n.is) (omega (arith, h)))
 
 pub reference-returns-in_default : goal.reference-returns-in_default
 reference-returns-in_default t c =
@@ -49,7 +49,7 @@ pub amode-returns-then-eq : goal.amode-returns-then-eq
 amode-returns-then-eq t c =
     let e = (said _ _ _ c.if-eq.ensures) in
     let h = c.peek.ensures.there (far NAME _ refl e) in
-    made_records c.args.from.depth c.args.from.symbols.now c.args.from.next c.args.from.used c.args.nodes.now h (sym c.peek.ensures.is ∙ e) (omega (arith, h))
+    rw (c.put.ensures.written, c.put.ensures.is) (made_records c.args.from.depth c.args.from.symbols.now c.args.from.next c.args.from.used c.args.nodes.now h (sym c.peek.ensures.is ∙ e) (omega (arith, h)))
 
 pub amode-returns : goal.amode-returns
 amode-returns t c =
@@ -65,7 +65,7 @@ array_mode-returns-in_err-m t c =
 pub array_mode-returns-then-ne : goal.array_mode-returns-then-ne
 array_mode-returns-then-ne t c =
     let u = c.if-ne.ensures in
-    made_array c.args.from.depth c.args.from.symbols.now c.args.from.next c.args.from.used c.args.nodes.now (omega (arith, c.requires.there)) c.requires.refers c.requires.there c.requires.array (λ e. differs _ _ u (c.peek.ensures.is ∙ e)) _ c.in_ok-m.m (omega (arith, c.in_ok-m.ensures)) c.in_ok-m.ensures
+    rw (c.put.ensures.written, c.put.ensures.is) (made_array c.args.from.depth c.args.from.symbols.now c.args.from.next c.args.from.used c.args.nodes.now (omega (arith, c.requires.there)) c.requires.refers c.requires.there c.requires.array (λ e. differs _ _ u (c.peek.ensures.is ∙ e)) _ c.in_ok-m.m (omega (arith, c.in_ok-m.ensures)) c.in_ok-m.ensures)
 
 pub array_mode-returns-in_err-deeper : goal.array_mode-returns-in_err-deeper
 array_mode-returns-in_err-deeper t c =
@@ -96,4 +96,4 @@ array_mode-returns t c =
     let h = c.peek.ensures.there (far LEFT _ refl e) in
     let x = c.in_ok-expect.ensures in
     let k = inside _ _ RIGHT refl x in
-    made_brackets c.args.from.depth c.args.from.symbols.now c.args.from.next c.args.from.used c.args.nodes.now (omega (arith, c.requires.there)) c.requires.refers c.requires.there c.requires.array h (sym c.peek.ensures.is ∙ e) c.in_ok-deeper.ensures.1 k x _ c.in_ok-m-2.m (omega (arith, c.in_ok-m-2.ensures)) c.in_ok-m-2.ensures
+    rw (c.put-2.ensures.written, c.put-2.ensures.is) (made_brackets c.args.from.depth c.args.from.symbols.now c.args.from.next c.args.from.used c.args.nodes.now (omega (arith, c.requires.there)) c.requires.refers c.requires.there c.requires.array h (sym c.peek.ensures.is ∙ e) c.in_ok-deeper.ensures.1 k x _ c.in_ok-m-2.m (omega (arith, c.in_ok-m-2.ensures)) c.in_ok-m-2.ensures)

@@ -8,4 +8,4 @@ pub returns : goal.returns
 returns c =
     let e = c.in_ok-expect.ensures in
     let h = inside _ _ NAME refl e in
-    made_bare c.args.from.depth c.args.from.symbols.now c.args.from.next c.args.from.used c.args.nodes.now h e (omega (arith, h))
+    rw (c.put.ensures.written, c.put.ensures.is) (made_bare c.args.from.depth c.args.from.symbols.now c.args.from.next c.args.from.used c.args.nodes.now h e (omega (arith, h)))

@@ -21,9 +21,9 @@ pub loop-from-init : goal.loop-from-init
 loop-from-init c =
     let e = c.in_ok-expect.ensures in
     let h = inside _ _ NAME refl e in
-    rebased 0 _ _ _ _ _ _ _ _ _ _ (λ j l. refl) (made_field c.args.from.depth c.args.from.symbols.now c.args.from.next c.args.from.used _ _ c.in_ok-m.m c.in_ok-m.ensures h e (omega (arith, h, c.in_ok-m.ensures)))
+    rw (c.put-at.ensures.written, c.put-at.ensures.is) (rebased 0 _ _ _ _ _ _ _ _ _ _ (λ j l. refl) (made_field c.args.from.depth c.args.from.symbols.now c.args.from.next c.args.from.used _ _ c.in_ok-m.m c.in_ok-m.ensures h e (omega (arith, h, c.in_ok-m.ensures))))
 
 pub returns : goal.returns
 returns c =
     let m = c.in_ok-m.ensures in
-    fields_end c.args.from.depth c.args.from.symbols.now c.args.from.next c.args.from.used _ _ c.loop-from.at c.loop-from.invariant _ (agree_trans c.args.from.used c.args.from.used _ _ _ (omega arith) m.kept (agree_set c.args.from.used c.in_ok-m.m.used _ _ (omega (arith, m.more)))) (λ e. (said _ _ _ c.loop-from-test.ensures) (c.peek.ensures.is ∙ e))
+    fields_end c.args.from.depth c.args.from.symbols.now c.args.from.next c.args.from.used _ _ c.loop-from.at c.loop-from.invariant _ (agree_trans c.args.from.used c.args.from.used _ _ _ (omega arith) m.kept (rw c.put-at.ensures.written (agree_set c.args.from.used c.in_ok-m.m.used _ _ (omega (arith, m.more))))) (λ e. (said _ _ _ c.loop-from-test.ensures) (c.peek.ensures.is ∙ e))

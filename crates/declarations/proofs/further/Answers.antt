@@ -10,7 +10,7 @@ pub returns-then-eq : goal.returns-then-eq
 returns-then-eq c =
     let e = (said _ _ _ c.if-eq.ensures) in
     let h = c.peek.ensures.there (far NAME _ refl e) in
-    (made_also c.args.from.depth c.args.from.symbols.now c.args.from.next c.args.from.used _ _ c.args.at c.requires.begun c.requires.there c.requires.comma h (sym c.peek.ensures.is ∙ e) (omega (arith, h, c.requires.begun.few)), omega arith)
+    rw (c.put.ensures.written, c.put.ensures.is) ((made_also c.args.from.depth c.args.from.symbols.now c.args.from.next c.args.from.used _ _ c.args.at c.requires.begun c.requires.there c.requires.comma h (sym c.peek.ensures.is ∙ e) (omega (arith, h, c.requires.begun.few)), omega arith))
 
 pub returns-in_err-m : goal.returns-in_err-m
 returns-in_err-m c =
@@ -27,4 +27,4 @@ returns c =
     let e = c.in_ok-expect.ensures in
     let h = inside _ _ NAME refl e in
     let m = c.in_ok-m.ensures in
-    (made_next c.args.from.depth c.args.from.symbols.now c.args.from.next c.args.from.used _ _ c.args.at c.requires.begun c.requires.there c.requires.comma (λ e. (said _ _ _ c.if-eq.ensures) (c.peek.ensures.is ∙ e)) _ c.in_ok-m.m m h e (omega (arith, h, m.few, c.requires.begun.few)), omega (arith, m.few, m.more))
+    rw (c.put-2.ensures.written, c.put-2.ensures.is) ((made_next c.args.from.depth c.args.from.symbols.now c.args.from.next c.args.from.used _ _ c.args.at c.requires.begun c.requires.there c.requires.comma (λ e. (said _ _ _ c.if-eq.ensures) (c.peek.ensures.is ∙ e)) _ c.in_ok-m.m m h e (omega (arith, h, m.few, c.requires.begun.few)), omega (arith, m.few, m.more)))

@@ -11,15 +11,12 @@ returns-then-ne g c =
     let e = c.in_ok-expect.ensures in
     let h = inside _ _ NAME refl e in
     let w = c.if-ne.ensures in
-    made_plain g.V.Initial.setting c.args.from.depth c.args.from.symbols.now c.args.from.next c.args.from.used c.args.nodes.now h e (λ x. differs _ _ w (c.peek.ensures.is ∙ x)) (omega (arith, h))
+    rw (c.put.ensures.written, c.put.ensures.is) (made_plain g.V.Initial.setting c.args.from.depth c.args.from.symbols.now c.args.from.next c.args.from.used c.args.nodes.now h e (λ x. differs _ _ w (c.peek.ensures.is ∙ x)) (omega (arith, h)))
 
 pub returns-in_err-v : goal.returns-in_err-v
 returns-in_err-v g c =
     let p = err_from_is_err_and c.from_residual-in_err-v.result c.from_residual-in_err-v.ensures.1 in
     rw (p.1, p.2) (init_refused g.V.Initial.setting c.args.from.depth c.args.from.symbols.now c.args.from.next c.args.from.used _ _ c.shared-n.result c.shared-n.ensures.0 c.shared-n.ensures.1 c.shared-n.ensures.2 _ c.in_err-v.ensures)
 
-pub bounds-nodes-v : goal.bounds-nodes-v
-bounds-nodes-v g c = omega (arith, c.in_ok-v.ensures.few, c.in_ok-v.ensures.within, c.shared-n.ensures.2, c.shared-n.auto.nodes, c.value.auto.nodes, c.requires.room)
-
 pub returns : goal.returns
-returns g c = made_given g.V.Initial.setting c.args.from.depth c.args.from.symbols.now c.args.from.next c.args.from.used _ _ c.shared-n.result c.shared-n.ensures.0 c.shared-n.ensures.1 c.shared-n.ensures.2 _ c.in_ok-v.v (omega (arith, c.in_ok-v.ensures.few, c.in_ok-v.ensures.within, c.shared-n.ensures.2, c.shared-n.auto.nodes, c.value.auto.nodes, c.requires.room)) c.in_ok-v.ensures
+returns g c = rw (c.put-2.ensures.written, c.put-2.ensures.is) (made_given g.V.Initial.setting c.args.from.depth c.args.from.symbols.now c.args.from.next c.args.from.used _ _ c.shared-n.result c.shared-n.ensures.0 c.shared-n.ensures.1 c.shared-n.ensures.2 _ c.in_ok-v.v (omega (arith, c.in_ok-v.ensures.few, c.in_ok-v.ensures.within, c.shared-n.ensures.2, c.shared-n.auto.nodes, c.value.auto.nodes, c.requires.room)) c.in_ok-v.ensures)

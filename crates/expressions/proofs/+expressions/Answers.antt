@@ -17,7 +17,7 @@ pub applied-returns-then-eq : goal.applied-returns-then-eq
 applied-returns-then-eq t c =
     let d = c.in_ok-depth.ensures in
     let e = (said _ _ _ c.if-eq.ensures) in
-    made_call c.args.from.depth c.args.from.symbols.now c.args.from.next c.args.from.used c.args.nodes.now (omega arith) c.requires.named c.requires.within c.requires.opening d.1 (c.peek.ensures.there (far RIGHT _ refl e)) (sym c.peek.ensures.is ∙ e) (omega arith)
+    rw (c.put.ensures.written, c.put.ensures.is) (made_call c.args.from.depth c.args.from.symbols.now c.args.from.next c.args.from.used c.args.nodes.now (omega arith) c.requires.named c.requires.within c.requires.opening d.1 (c.peek.ensures.there (far RIGHT _ refl e)) (sym c.peek.ensures.is ∙ e) (omega arith))
 
 pub applied-returns-in_err-e : goal.applied-returns-in_err-e
 applied-returns-in_err-e t c =
@@ -30,26 +30,26 @@ applied-calls-requires t c =
     let d = c.in_ok-depth.ensures in
     let k = c.expr.auto.nodes in
     let l = length-set c.args.nodes.now c.args.from.used (Name c.args.from.next) in
-    let E = rw d.0 at c.in_ok-e.ensures in
+    let E = rw (d.0, c.put-name.ensures.written, c.put-name.ensures.is) at c.in_ok-e.ensures in
     (omega (arith, c.decreases), (omega arith, (c.requires.named, (c.requires.opening, (c.requires.within, (omega (arith, k, l), first_argument c.args.from.depth c.args.from.symbols.now c.args.from.next c.args.from.used c.args.nodes.now (omega arith) c.requires.named c.requires.within c.requires.opening d.1 (λ e. (said _ _ _ c.if-eq.ensures) (c.peek.ensures.is ∙ e)) _ _ c.in_ok-e.e E (sym c.in-Comma.ensures.is)))))))
 
 pub applied-returns-in-Right : goal.applied-returns-in-Right
 applied-returns-in-Right t c =
     let d = c.in_ok-depth.ensures in
-    let E = rw d.0 at c.in_ok-e.ensures in
+    let E = rw (d.0, c.put-name.ensures.written, c.put-name.ensures.is) at c.in_ok-e.ensures in
     let b : Agree c.args.from.used c.args.nodes.now c.expr.new.nodes = agree_trans c.args.from.used c.args.from.used _ (set c.args.nodes.now c.args.from.used (Name c.args.from.next)) _ (omega arith) (agree_set c.args.from.used c.args.from.used c.args.nodes.now _ (omega arith)) (λ j l. E.kept j (omega arith)) in
     let k = c.expr.auto.nodes in
     let l = length-set c.args.nodes.now c.args.from.used (Name c.args.from.next) in
     let n = c.in-Right.ensures in
     let h = n.there (far RIGHT _ refl refl) in
     let g : Agree c.args.from.used c.expr.new.nodes (set c.expr.new.nodes c.in_ok-e.e.used (Element c.args.from.used (c.args.from.next + 1) c.in_ok-e.e.root)) = agree_set c.args.from.used c.in_ok-e.e.used _ _ (omega (arith, E.more)) in
-    otherwise c.variable.result (λ p m. rebased 0 _ _ _ _ _ _ _ _ _ p (agree_trans c.args.from.used c.args.from.used _ _ _ (omega arith) (agree_trans c.args.from.used c.args.from.used _ _ _ (omega arith) b g) m.kept) (form_of _ _ _ _ _ _ p m)) (λ f r. r)
-    (c.variable.ensures by_name (rebased 0 _ _ _ _ _ _ _ _ _ _ (λ j l. refl) (made_element c.args.from.depth c.args.from.symbols.now c.args.from.next c.args.from.used c.args.nodes.now (omega arith) c.requires.named c.requires.within c.requires.opening d.1 (λ e. (said _ _ _ c.if-eq.ensures) (c.peek.ensures.is ∙ e)) _ _ c.in_ok-e.e E (at_set c.args.from.used c.args.nodes.now _ (omega arith)) h (sym n.is) (omega (arith, k, l, E.few, h)))))
+    otherwise c.variable.result (λ p m. rebased 0 _ _ _ _ _ _ _ _ _ p (agree_trans c.args.from.used c.args.from.used _ _ _ (omega arith) (agree_trans c.args.from.used c.args.from.used _ _ _ (omega arith) b (rw (c.put-at.ensures.written, c.put-name.ensures.is) g)) m.kept) (form_of _ _ _ _ _ _ p m)) (λ f r. r)
+    (c.variable.ensures by_name (rw (c.put-at.ensures.written, c.put-at.ensures.is, c.put-name.ensures.is) (rebased 0 _ _ _ _ _ _ _ _ _ _ (λ j l. refl) (made_element c.args.from.depth c.args.from.symbols.now c.args.from.next c.args.from.used c.args.nodes.now (omega arith) c.requires.named c.requires.within c.requires.opening d.1 (λ e. (said _ _ _ c.if-eq.ensures) (c.peek.ensures.is ∙ e)) _ _ c.in_ok-e.e E (at_set c.args.from.used c.args.nodes.now _ (omega arith)) h (sym n.is) (omega (arith, k, l, E.few, h))))))
 
 pub applied-returns-in_default : goal.applied-returns-in_default
 applied-returns-in_default t c =
     let d = c.in_ok-depth.ensures in
-    argument_unclosed c.args.from.depth c.args.from.symbols.now c.args.from.next c.args.from.used c.args.nodes.now (omega arith) c.requires.named c.requires.within c.requires.opening d.1 (λ e. (said _ _ _ c.if-eq.ensures) (c.peek.ensures.is ∙ e)) _ _ c.in_ok-e.e (rw d.0 at c.in_ok-e.ensures) (λ e. c.in_default.not-Right (c.peek-2.ensures.is ∙ e)) (λ e. c.in_default.not-Comma (c.peek-2.ensures.is ∙ e))
+    argument_unclosed c.args.from.depth c.args.from.symbols.now c.args.from.next c.args.from.used c.args.nodes.now (omega arith) c.requires.named c.requires.within c.requires.opening d.1 (λ e. (said _ _ _ c.if-eq.ensures) (c.peek.ensures.is ∙ e)) _ _ c.in_ok-e.e (rw (d.0, c.put-name.ensures.written, c.put-name.ensures.is) at c.in_ok-e.ensures) (λ e. c.in_default.not-Right (c.peek-2.ensures.is ∙ e)) (λ e. c.in_default.not-Comma (c.peek-2.ensures.is ∙ e))
 
 pub bracketed-returns-in_err-e : goal.bracketed-returns-in_err-e
 bracketed-returns-in_err-e t c =
@@ -78,7 +78,7 @@ calls-returns-in_err-e t c =
 pub calls-loop-further-preserved : goal.calls-loop-further-preserved
 calls-loop-further-preserved t c =
     let e = (said _ _ _ c.loop-further-test.ensures) in
-    more_goes c.args.from.depth c.args.from.symbols.now c.args.from.next c.args.from.used c.requires.deep _ _ c.loop-further.at c.loop-further.invariant (c.peek.ensures.there (far COMMA _ refl e)) (sym c.peek.ensures.is ∙ e) _ c.in_ok-e.e (omega (arith, c.in_ok-e.ensures)) c.in_ok-e.ensures
+    rw (c.put-at.ensures.written, c.put-at.ensures.is) (more_goes c.args.from.depth c.args.from.symbols.now c.args.from.next c.args.from.used c.requires.deep _ _ c.loop-further.at c.loop-further.invariant (c.peek.ensures.there (far COMMA _ refl e)) (sym c.peek.ensures.is ∙ e) _ c.in_ok-e.e (omega (arith, c.in_ok-e.ensures)) c.in_ok-e.ensures)
 
 pub calls-returns-in_err-expect : goal.calls-returns-in_err-expect
 calls-returns-in_err-expect t c =
@@ -88,15 +88,15 @@ calls-returns-in_err-expect t c =
 pub calls-returns : goal.calls-returns
 calls-returns t c =
     let q = c.in_ok-expect.ensures in
-    made_calls c.args.from.depth c.args.from.symbols.now c.args.from.next c.args.from.used c.requires.deep _ _ c.loop-further.at c.loop-further.invariant (omega arith) c.requires.named c.requires.within c.requires.opening (λ e. (said _ _ _ c.loop-further-test.ensures) (c.peek.ensures.is ∙ e)) (inside _ _ RIGHT refl q) q (omega arith)
+    rw (c.put.ensures.written, c.put.ensures.is) (made_calls c.args.from.depth c.args.from.symbols.now c.args.from.next c.args.from.used c.requires.deep _ _ c.loop-further.at c.loop-further.invariant (omega arith) c.requires.named c.requires.within c.requires.opening (λ e. (said _ _ _ c.loop-further-test.ensures) (c.peek.ensures.is ∙ e)) (inside _ _ RIGHT refl q) q (omega arith))
 
 pub expr-returns : goal.expr-returns
 expr-returns t c = otherwise c.level.result (λ p m. expr_made c.args.from.depth c.args.from.symbols.now c.args.from.next c.args.from.used _ _ p m) (λ f r. expr_refused c.args.from.depth c.args.from.symbols.now c.args.from.next c.args.from.used f r) c.level.ensures
 
 pub form-returns : goal.form-returns
 form-returns t c =
-    otherwise c.variable.result (λ p m. rebased 0 _ _ _ _ _ _ _ _ _ p (agree_trans c.args.from.used c.args.from.used _ _ _ (omega arith) (agree_set c.args.from.used c.args.from.used c.args.nodes.now _ (omega arith)) m.kept) (form_of _ _ _ _ _ _ p m)) (λ f r. r)
-    (c.variable.ensures by_name (rebased 0 _ _ _ _ _ _ _ _ _ _ (λ j l. refl) (made_name c.args.from.depth c.args.from.symbols.now c.args.from.next c.args.from.used c.args.nodes.now c.requires.within c.requires.named (λ e. (said _ _ _ c.if-eq.ensures) (c.peek.ensures.is ∙ e)) (omega arith))))
+    otherwise c.variable.result (λ p m. rebased 0 _ _ _ _ _ _ _ _ _ p (agree_trans c.args.from.used c.args.from.used _ _ _ (omega arith) (rw c.put-at.ensures.written (agree_set c.args.from.used c.args.from.used c.args.nodes.now _ (omega arith))) m.kept) (form_of _ _ _ _ _ _ p m)) (λ f r. r)
+    (c.variable.ensures by_name (rw (c.put-at.ensures.written, c.put-at.ensures.is) (rebased 0 _ _ _ _ _ _ _ _ _ _ (λ j l. refl) (made_name c.args.from.depth c.args.from.symbols.now c.args.from.next c.args.from.used c.args.nodes.now c.requires.within c.requires.named (λ e. (said _ _ _ c.if-eq.ensures) (c.peek.ensures.is ∙ e)) (omega arith)))))
 
 pub level-returns-then-n-eq0 : goal.level-returns-then-n-eq0
 level-returns-then-n-eq0 t c = otherwise c.term.result (λ p m. level_zero c.args.from.depth c.args.from.symbols.now c.args.from.next c.args.from.used c.args.n c.if-n-eq0.true _ _ p m) (λ f r α. r (links_on ∷ α)) c.term.ensures
@@ -110,7 +110,7 @@ level-returns-in_err-e t c =
     rw (p.1, p.2) (level_refused c.args.from.depth c.args.from.symbols.now c.args.from.next c.args.from.used (c.args.n - 1) _ _ c.loop-operand.at c.loop-operand.invariant (c.peek.ensures.there (no_stop _ (c.args.n - 1) (sym c.rank.ensures ∙ c.loop-operand-test.true) (omega arith))) (ap rank_of (sym c.peek.ensures.is) ∙ sym c.rank.ensures ∙ c.loop-operand-test.true) (omega arith) _ c.in_err-e.ensures)
 
 pub level-loop-operand-preserved : goal.level-loop-operand-preserved
-level-loop-operand-preserved t c = level_goes c.args.from.depth c.args.from.symbols.now c.args.from.next c.args.from.used (c.args.n - 1) _ _ c.loop-operand.at c.loop-operand.invariant (c.peek.ensures.there (no_stop _ (c.args.n - 1) (sym c.rank.ensures ∙ c.loop-operand-test.true) (omega arith))) (ap rank_of (sym c.peek.ensures.is) ∙ sym c.rank.ensures ∙ c.loop-operand-test.true) (omega arith) _ c.in_ok-e.e _ c.peek-in-loop-operand.ensures.is (omega (arith, c.in_ok-e.ensures)) c.in_ok-e.ensures
+level-loop-operand-preserved t c = rw (c.put-at.ensures.written, c.put-at.ensures.is) (level_goes c.args.from.depth c.args.from.symbols.now c.args.from.next c.args.from.used (c.args.n - 1) _ _ c.loop-operand.at c.loop-operand.invariant (c.peek.ensures.there (no_stop _ (c.args.n - 1) (sym c.rank.ensures ∙ c.loop-operand-test.true) (omega arith))) (ap rank_of (sym c.peek.ensures.is) ∙ sym c.rank.ensures ∙ c.loop-operand-test.true) (omega arith) _ c.in_ok-e.e _ c.peek-in-loop-operand.ensures.is (omega (arith, c.in_ok-e.ensures)) c.in_ok-e.ensures)
 
 pub level-returns : goal.level-returns
 level-returns t c = level_ends c.args.from.depth c.args.from.symbols.now c.args.from.next c.args.from.used (c.args.n - 1) _ _ c.loop-operand.at c.loop-operand.invariant c.args.n (omega arith) _ c.in_ok-at.ensures.kept (λ e. c.loop-operand-test.false (c.rank.ensures ∙ ap rank_of c.peek.ensures.is ∙ e))
@@ -126,13 +126,13 @@ pub primary-returns-in-Integer : goal.primary-returns-in-Integer
 primary-returns-in-Integer t c =
     let n = c.in-Integer.ensures in
     let h : c.args.from.next < length c.args.from.symbols.now = n.there (far INTEGER _ refl refl) in
-    made_integer c.args.from.depth c.args.from.symbols.now c.args.from.next c.args.from.used c.args.nodes.now h (sym n.is) (omega arith)
+    rw (c.put.ensures.written, c.put.ensures.is) (made_integer c.args.from.depth c.args.from.symbols.now c.args.from.next c.args.from.used c.args.nodes.now h (sym n.is) (omega arith))
 
 pub primary-returns-in-Text : goal.primary-returns-in-Text
 primary-returns-in-Text t c =
     let n = c.in-Text.ensures in
     let h : c.args.from.next < length c.args.from.symbols.now = n.there (far TEXT _ refl refl) in
-    made_text c.args.from.depth c.args.from.symbols.now c.args.from.next c.args.from.used c.args.nodes.now h (sym n.is) (omega arith)
+    rw (c.put-in-Text.ensures.written, c.put-in-Text.ensures.is) (made_text c.args.from.depth c.args.from.symbols.now c.args.from.next c.args.from.used c.args.nodes.now h (sym n.is) (omega arith))
 
 pub primary-returns-in-Name : goal.primary-returns-in-Name
 primary-returns-in-Name t c =
@@ -145,7 +145,7 @@ primary-returns-in_ok-e-in-Left t c =
     let m = c.in_ok-e-in-Left.ensures in
     let n = c.in-Left.ensures in
     let h : c.args.from.next < length c.args.from.symbols.now = n.there (far LEFT _ refl refl) in
-    made_paren c.args.from.depth c.args.from.symbols.now c.args.from.next c.args.from.used _ h (sym n.is) _ c.in_ok-e-in-Left.e (omega (arith, m)) m.0 m.1
+    rw (c.put-in-Left.ensures.written, c.put-in-Left.ensures.is) (made_paren c.args.from.depth c.args.from.symbols.now c.args.from.next c.args.from.used _ h (sym n.is) _ c.in_ok-e-in-Left.e (omega (arith, m)) m.0 m.1)
 
 pub term-returns-in_err-at : goal.term-returns-in_err-at
 term-returns-in_err-at t c =
@@ -160,7 +160,7 @@ pub term-loop-k-preserved : goal.term-loop-k-preserved
 term-loop-k-preserved t c =
     let m = monads_there c.args.from.depth c.args.from.symbols.now c.args.from.next c.monads.result c.requires.within c.monads.ensures.is in
     let v = c.loop-k.invariant in
-    (omega arith, term_monad c.args.from.depth c.args.from.symbols.now c.args.from.next c.loop-k.k c.args.from.used _ _ c.loop-k.at _ (omega arith) (omega arith) (m.each (c.loop-k.k - 1) (omega arith) (omega arith)) c.peek.ensures.is (omega arith) v.1)
+    (omega arith, rw (c.put-at.ensures.written, c.put-at.ensures.is) (term_monad c.args.from.depth c.args.from.symbols.now c.args.from.next c.loop-k.k c.args.from.used _ _ c.loop-k.at _ (omega arith) (omega arith) (m.each (c.loop-k.k - 1) (omega arith) (omega arith)) c.peek.ensures.is (omega arith) v.1))
 
 pub variable-returns-in_err-e-in-Left : goal.variable-returns-in_err-e-in-Left
 variable-returns-in_err-e-in-Left t c b m =
@@ -173,8 +173,8 @@ variable-loop-bracket-preserved-in-Left t c =
     let m = c.in_ok-e-in-Left.ensures in
     let n = c.in-Left.ensures in
     let v = c.loop-bracket.invariant.0 in (
-      record { within = m.0.within; more = omega (arith, v.more, m.0.more); few = omega (arith, v.few, m.1); below = omega arith },
-      λ b x. left_goes b c.args.from.depth c.args.from.symbols.now c.args.from.next c.args.from.used _ _ c.loop-bracket.at (c.loop-bracket.invariant.1 b x) (n.there (far LEFT _ refl refl)) (sym n.is) _ c.in_ok-e-in-Left.e (omega (arith, m, v)) m.0 m.1,
+      rw c.put-at.ensures.is (record { within = m.0.within; more = omega (arith, v.more, m.0.more); few = omega (arith, v.few, m.1); below = omega arith }),
+      λ b x. rw (c.put-at.ensures.written, c.put-at.ensures.is) (left_goes b c.args.from.depth c.args.from.symbols.now c.args.from.next c.args.from.used _ _ c.loop-bracket.at (c.loop-bracket.invariant.1 b x) (n.there (far LEFT _ refl refl)) (sym n.is) _ c.in_ok-e-in-Left.e (omega (arith, m, v)) m.0 m.1),
     )
 
 pub variable-returns-in_err-expect-in-Dot : goal.variable-returns-in_err-expect-in-Dot
@@ -189,6 +189,6 @@ variable-loop-bracket-preserved t c =
     let q = c.in_ok-expect-in-Dot.ensures in
     let h = inside _ _ NAME refl q in
     let v = c.loop-bracket.invariant.0 in (
-      record { within = omega (arith, h); more = omega (arith, v.more); few = omega (arith, v.few); below = omega arith },
-      λ b x. dot_goes b c.args.from.depth c.args.from.symbols.now c.args.from.next c.args.from.used _ _ c.loop-bracket.at (c.loop-bracket.invariant.1 b x) (n.there (far DOT _ refl refl)) (sym n.is) h q (omega (arith, h, v)),
+      rw c.put-at-in-Dot.ensures.is (record { within = omega (arith, h); more = omega (arith, v.more); few = omega (arith, v.few); below = omega arith }),
+      λ b x. rw (c.put-at-in-Dot.ensures.written, c.put-at-in-Dot.ensures.is) (dot_goes b c.args.from.depth c.args.from.symbols.now c.args.from.next c.args.from.used _ _ c.loop-bracket.at (c.loop-bracket.invariant.1 b x) (n.there (far DOT _ refl refl)) (sym n.is) h q (omega (arith, h, v))),
     )

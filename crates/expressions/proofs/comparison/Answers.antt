@@ -22,4 +22,4 @@ returns-in_err-b c =
 pub returns : goal.returns
 returns c =
     let q : among comparators c.peek-c.result ≡ true = sym c.comparator.ensures ∙ c.if-not-comparator.false in
-    made_comparison c.args.from.depth c.args.from.symbols.now c.args.from.next c.args.from.used _ _ c.in_ok-a.a c.in_ok-a.ensures (c.peek-c.ensures.there (comparator_there _ q)) (ap (among comparators) (sym c.peek-c.ensures.is) ∙ q) _ c.peek-c.ensures.is _ c.in_ok-b.b (omega (arith, c.in_ok-a.ensures, c.in_ok-b.ensures)) c.in_ok-b.ensures
+    rw (c.put.ensures.written, c.put.ensures.is) (made_comparison c.args.from.depth c.args.from.symbols.now c.args.from.next c.args.from.used _ _ c.in_ok-a.a c.in_ok-a.ensures (c.peek-c.ensures.there (comparator_there _ q)) (ap (among comparators) (sym c.peek-c.ensures.is) ∙ q) _ c.peek-c.ensures.is _ c.in_ok-b.b (omega (arith, c.in_ok-a.ensures, c.in_ok-b.ensures)) c.in_ok-b.ensures)

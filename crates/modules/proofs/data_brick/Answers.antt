@@ -5,4 +5,4 @@ use Rattle.modules.proofs.data_brick.Goals as goal
 pub returns : goal.returns
 returns c =
     let m = c.in_ok-d.ensures in
-    made_data c.args.from.depth c.args.from.symbols.now c.args.from.next c.args.from.used c.requires.there c.requires.opening _ _ c.in_ok-d.d (omega (arith, m.few, m.within, c.requires.room)) m
+    rw (c.put.ensures.written, c.put.ensures.is) (made_data c.args.from.depth c.args.from.symbols.now c.args.from.next c.args.from.used c.requires.there c.requires.opening _ _ c.in_ok-d.d (omega (arith, m.few, m.within, c.requires.room)) m)

@@ -11,4 +11,4 @@ returns-in_err-b c =
 pub returns : goal.returns
 returns c =
     let m = c.in_ok-b.ensures in
-    made_entry c.args.from.depth c.args.from.symbols.now c.args.from.next c.args.from.used c.requires.there c.requires.opening _ _ c.in_ok-b.b (omega (arith, m.1, m.0.within, c.requires.room)) m.0
+    rw (c.put.ensures.written, c.put.ensures.is) (made_entry c.args.from.depth c.args.from.symbols.now c.args.from.next c.args.from.used c.requires.there c.requires.opening _ _ c.in_ok-b.b (omega (arith, m.1, m.0.within, c.requires.room)) m.0)

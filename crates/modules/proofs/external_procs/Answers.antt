@@ -47,4 +47,4 @@ returns c =
     let wq = c.in_ok-expect-2.ensures in
     let o = c.in_ok-m.ensures in
     let b = c.in_ok-n.ensures in
-    made_ext_procs c.args.from.depth c.args.from.symbols.now c.args.from.next c.args.from.used (omega (arith, c.requires.there)) c.requires.opening c.requires.there c.requires.second (inside _ _ LEFT refl uq) uq z.1 _ _ c.in_ok-p.p m (inside _ _ RIGHT refl wq) wq _ c.in_ok-m.m o _ c.in_ok-n.n (omega (arith, m.few, o.few, b.few, b.within, c.requires.room)) b
+    rw (c.put.ensures.written, c.put.ensures.is) (made_ext_procs c.args.from.depth c.args.from.symbols.now c.args.from.next c.args.from.used (omega (arith, c.requires.there)) c.requires.opening c.requires.there c.requires.second (inside _ _ LEFT refl uq) uq z.1 _ _ c.in_ok-p.p m (inside _ _ RIGHT refl wq) wq _ c.in_ok-m.m o _ c.in_ok-n.n (omega (arith, m.few, o.few, b.few, b.within, c.requires.room)) b)

@@ -11,4 +11,4 @@ returns-in_err-d c =
 pub returns : goal.returns
 returns c =
     let m = c.in_ok-d.ensures in
-    made_ext_data c.args.from.depth c.args.from.symbols.now c.args.from.next c.args.from.used (omega (arith, c.requires.there)) c.requires.opening c.requires.there c.requires.second _ _ c.in_ok-d.d (omega (arith, m.few, m.within, c.requires.room)) m
+    rw (c.put.ensures.written, c.put.ensures.is) (made_ext_data c.args.from.depth c.args.from.symbols.now c.args.from.next c.args.from.used (omega (arith, c.requires.there)) c.requires.opening c.requires.there c.requires.second _ _ c.in_ok-d.d (omega (arith, m.few, m.within, c.requires.room)) m)

@@ -61,4 +61,4 @@ returns c =
     let o = c.in_ok-m.ensures in
     let yq = c.in_ok-expect-4.ensures in
     let yh = inside _ _ SEMI refl yq in
-    made_head c.args.from.depth c.args.from.symbols.now c.args.from.next c.args.from.used c.requires.there c.requires.opening (inside _ _ NAME refl uq) uq (inside _ _ LEFT refl wq) wq z.1 _ _ c.in_ok-f.f m (inside _ _ RIGHT refl xq) xq _ c.in_ok-m.m o yh yq (omega (arith, m.few, o.few, yh, c.requires.room))
+    rw (c.put.ensures.written, c.put.ensures.is) (made_head c.args.from.depth c.args.from.symbols.now c.args.from.next c.args.from.used c.requires.there c.requires.opening (inside _ _ NAME refl uq) uq (inside _ _ LEFT refl wq) wq z.1 _ _ c.in_ok-f.f m (inside _ _ RIGHT refl xq) xq _ c.in_ok-m.m o yh yq (omega (arith, m.few, o.few, yh, c.requires.room)))

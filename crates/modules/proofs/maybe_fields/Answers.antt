@@ -19,4 +19,4 @@ returns-then-begins_mode c =
 pub returns : goal.returns
 returns c =
     let q : among mode_firsts c.peek.result ≡ false = sym c.begins_mode.ensures ∙ c.if-begins_mode.false in
-    absent IsFields of_fields maybe_fields the_fields c.args.from.depth c.args.from.symbols.now c.args.from.next c.args.from.used (no_fields_there c.args.from.depth c.args.from.symbols.now c.args.from.next (ap (among mode_firsts) (sym c.peek.ensures.is) ∙ q)) c.args.nodes.now c.requires.within (omega arith)
+    rw (c.put.ensures.written, c.put.ensures.is) (absent IsFields of_fields maybe_fields the_fields c.args.from.depth c.args.from.symbols.now c.args.from.next c.args.from.used (no_fields_there c.args.from.depth c.args.from.symbols.now c.args.from.next (ap (among mode_firsts) (sym c.peek.ensures.is) ∙ q)) c.args.nodes.now c.requires.within (omega arith))

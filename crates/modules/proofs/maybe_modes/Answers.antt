@@ -19,4 +19,4 @@ returns-then-begins_mode c =
 pub returns : goal.returns
 returns c =
     let q : among mode_firsts c.peek.result ≡ false = sym c.begins_mode.ensures ∙ c.if-begins_mode.false in
-    absent (IsMany IsMode) (of_many of_mode COMMA) maybe_modes (all modes) c.args.from.depth c.args.from.symbols.now c.args.from.next c.args.from.used (no_modes_there c.args.from.depth c.args.from.symbols.now c.args.from.next (ap (among mode_firsts) (sym c.peek.ensures.is) ∙ q)) c.args.nodes.now c.requires.within (omega arith)
+    rw (c.put.ensures.written, c.put.ensures.is) (absent (IsMany IsMode) (of_many of_mode COMMA) maybe_modes (all modes) c.args.from.depth c.args.from.symbols.now c.args.from.next c.args.from.used (no_modes_there c.args.from.depth c.args.from.symbols.now c.args.from.next (ap (among mode_firsts) (sym c.peek.ensures.is) ∙ q)) c.args.nodes.now c.requires.within (omega arith))

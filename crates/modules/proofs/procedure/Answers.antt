@@ -10,4 +10,4 @@ returns c =
     let uh = inside _ _ ENDPROC refl uq in
     let m = c.in_ok-h.ensures in
     let o = c.in_ok-b.ensures in
-    made_procedure c.args.from.depth c.args.from.symbols.now c.args.from.next c.args.from.used _ _ c.in_ok-h.h m.0 m.1 _ c.in_ok-b.b o uh uq (omega (arith, m.1, o.few, uh, c.requires.room))
+    rw (c.put.ensures.written, c.put.ensures.is) (made_procedure c.args.from.depth c.args.from.symbols.now c.args.from.next c.args.from.used _ _ c.in_ok-h.h m.0 m.1 _ c.in_ok-b.b o uh uq (omega (arith, m.1, o.few, uh, c.requires.room)))

@@ -31,4 +31,4 @@ returns c =
     let m = rw z.0 at c.in_ok-f.ensures in
     let xq = c.in_ok-expect-3.ensures in
     let xh = inside _ _ RIGHT refl xq in
-    made_record c.args.from.depth c.args.from.symbols.now c.args.from.next c.args.from.used c.requires.there c.requires.opening (inside _ _ NAME refl uq) uq (inside _ _ LEFT refl wq) wq z.1 _ _ c.in_ok-f.f m xh xq (omega (arith, m.few, xh, c.requires.room))
+    rw (c.put.ensures.written, c.put.ensures.is) (made_record c.args.from.depth c.args.from.symbols.now c.args.from.next c.args.from.used c.requires.there c.requires.opening (inside _ _ NAME refl uq) uq (inside _ _ LEFT refl wq) wq z.1 _ _ c.in_ok-f.f m xh xq (omega (arith, m.few, xh, c.requires.room)))

@@ -37,4 +37,4 @@ returns g c =
     let l = inside _ _ RIGHT refl y in
     let m = c.in_ok-m.ensures in
     let n = c.in_ok-n.ensures in
-    made_arrays g.D.Declares.sort c.args.from.depth c.args.from.symbols.now c.args.from.next c.args.from.used c.requires.there c.requires.array h e c.in_ok-deeper.ensures.1 k x l y _ _ c.in_ok-m.m m _ c.in_ok-n.n (omega (arith, m.few, n.few, n.within)) n
+    rw (c.put.ensures.written, c.put.ensures.is) (made_arrays g.D.Declares.sort c.args.from.depth c.args.from.symbols.now c.args.from.next c.args.from.used c.requires.there c.requires.array h e c.in_ok-deeper.ensures.1 k x l y _ _ c.in_ok-m.m m _ c.in_ok-n.n (omega (arith, m.few, n.few, n.within)) n)

@@ -9,4 +9,4 @@ returns-in_err-n g c =
     rw (p.1, p.2) (records_refused g.D.Declares.sort c.args.from.depth c.args.from.symbols.now c.args.from.next c.args.from.used c.requires.there c.requires.name _ c.in_err-n.ensures)
 
 pub returns : goal.returns
-returns g c = made_structures g.D.Declares.sort c.args.from.depth c.args.from.symbols.now c.args.from.next c.args.from.used c.requires.there c.requires.name _ _ c.in_ok-n.n (omega (arith, c.in_ok-n.ensures)) c.in_ok-n.ensures
+returns g c = rw (c.put.ensures.written, c.put.ensures.is) (made_structures g.D.Declares.sort c.args.from.depth c.args.from.symbols.now c.args.from.next c.args.from.used c.requires.there c.requires.name _ _ c.in_ok-n.n (omega (arith, c.in_ok-n.ensures)) c.in_ok-n.ensures)

@@ -17,4 +17,4 @@ pub returns : goal.returns
 returns g c =
     let m = c.in_ok-m.ensures in
     let l = c.in_ok-n.ensures in
-    made_variables g.D.Declares.sort c.args.from.depth c.args.from.symbols.now c.args.from.next c.args.from.used c.requires.there c.requires.begins _ _ c.in_ok-m.m m _ c.in_ok-n.n (omega (arith, m.few, l.few, l.within)) l
+    rw (c.put.ensures.written, c.put.ensures.is) (made_variables g.D.Declares.sort c.args.from.depth c.args.from.symbols.now c.args.from.next c.args.from.used c.requires.there c.requires.begins _ _ c.in_ok-m.m m _ c.in_ok-n.n (omega (arith, m.few, l.few, l.within)) l)

@@ -26,4 +26,4 @@ returns c =
     let h = inside _ _ SEMI refl e in
     let m = c.in_ok-m.ensures in
     let l = c.in_ok-n.ensures in
-    (made_local c.args.from.depth c.args.from.symbols.now c.args.from.next c.args.from.used c.requires.there c.requires.begins _ _ c.in_ok-m.m m _ c.in_ok-n.n l h e (omega (arith, h, m.few, l.few)), omega (arith, m.few, l.few))
+    rw (c.put.ensures.written, c.put.ensures.is) ((made_local c.args.from.depth c.args.from.symbols.now c.args.from.next c.args.from.used c.requires.there c.requires.begins _ _ c.in_ok-m.m m _ c.in_ok-n.n l h e (omega (arith, h, m.few, l.few)), omega (arith, m.few, l.few)))

@@ -10,7 +10,7 @@ pub loop-behind-preserved : goal.loop-behind-preserved
 loop-behind-preserved c =
     let v = c.loop-behind.invariant in
     let l = c.in_ok-l.ensures in
-    made_locals c.args.from.depth c.args.from.symbols.now c.args.from.next c.args.from.used _ _ c.loop-behind.at v _ c.in_ok-l.l (omega (arith, v.few, l.0.within, l.1, c.requires.room, c.local.auto.nodes, c.loop-behind.auto.nodes, length-set c.args.nodes.now c.args.from.used NoLocals)) l.0 l.1
+    rw (c.put-at-in-loop-behind.ensures.written, c.put-at-in-loop-behind.ensures.is) (made_locals c.args.from.depth c.args.from.symbols.now c.args.from.next c.args.from.used _ _ c.loop-behind.at v _ c.in_ok-l.l (omega (arith, v.few, l.0.within, l.1, c.requires.room, c.local.auto.nodes, c.loop-behind.auto.nodes, length-set c.args.nodes.now c.args.from.used NoLocals)) l.0 l.1)
 
 pub returns : goal.returns
-returns c = locals_end c.args.from.depth c.args.from.symbols.now c.args.from.next c.args.from.used _ _ c.loop-behind.at c.loop-behind.invariant _ (agree_set c.args.from.used c.args.from.used c.args.nodes.now _ (omega arith)) (ap (among mode_firsts) (sym c.peek.ensures.is) ∙ sym c.loop-behind-test.ensures)
+returns c = locals_end c.args.from.depth c.args.from.symbols.now c.args.from.next c.args.from.used _ _ c.loop-behind.at c.loop-behind.invariant _ (rw c.put-at.ensures.written (agree_set c.args.from.used c.args.from.used c.args.nodes.now _ (omega arith))) (ap (among mode_firsts) (sym c.peek.ensures.is) ∙ sym c.loop-behind-test.ensures)

@@ -33,7 +33,7 @@ loop-of-preserved g c =
     let h = c.peek.ensures.there (far (separator (g.L.Entries.kind c.args.of)) _ (sep_far (g.L.Entries.kind c.args.of)) e) in
     let m = c.in_ok-e.ensures in
     let v = c.loop-of.invariant in
-    goes _ g.met.L.Entries.small (g.L.Entries.kind c.args.of) _ (g.met.L.Entries.begins c.args.of) c.args.from.depth c.args.from.symbols.now c.args.from.next c.args.from.used _ _ c.loop-of.at v h (sym c.peek.ensures.is ∙ e) _ c.in_ok-e.e (omega (arith, g.met.L.Entries.small, m.few, m.within, v.few, h, c.requires.room)) m
+    rw (c.put-at.ensures.written, c.put-at.ensures.is) (goes _ g.met.L.Entries.small (g.L.Entries.kind c.args.of) _ (g.met.L.Entries.begins c.args.of) c.args.from.depth c.args.from.symbols.now c.args.from.next c.args.from.used _ _ c.loop-of.at v h (sym c.peek.ensures.is ∙ e) _ c.in_ok-e.e (omega (arith, g.met.L.Entries.small, m.few, m.within, v.few, h, c.requires.room)) m)
 
 pub returns : goal.returns
 returns g c = ends _ g.met.L.Entries.small (g.L.Entries.kind c.args.of) _ (g.met.L.Entries.begins c.args.of) c.args.from.depth c.args.from.symbols.now c.args.from.next c.args.from.used _ _ c.loop-of.at c.loop-of.invariant _ c.in_ok-at.ensures.kept (λ e. said _ _ _ c.loop-of-test.ensures (c.peek.ensures.is ∙ e ∙ sym c.separator.ensures))

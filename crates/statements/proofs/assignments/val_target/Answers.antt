@@ -23,4 +23,4 @@ returns c =
     let x = c.in_ok-expect-2.ensures in
     let h = inside _ _ BECOMES refl x in
     let m = c.in_ok-v.ensures in
-    made_val c.args.from.depth c.args.from.symbols.now c.args.from.next c.args.from.used (inside _ _ NAME refl q) q _ _ c.in_ok-v.v m c.requires.there c.requires.valued h x (omega (arith, h, m.few))
+    rw (c.put.ensures.written, c.put.ensures.is) (made_val c.args.from.depth c.args.from.symbols.now c.args.from.next c.args.from.used (inside _ _ NAME refl q) q _ _ c.in_ok-v.v m c.requires.there c.requires.valued h x (omega (arith, h, m.few)))

@@ -21,7 +21,7 @@ arm-returns t c =
     let h = inside _ _ THEN refl q in
     let m = c.in_ok-c.ensures in
     let n = c.in_ok-q.ensures in
-    made_arm c.args.from.depth c.args.from.symbols.now c.args.from.next c.args.from.used _ _ c.in_ok-c.c m h q _ c.in_ok-q.q (omega (arith, m.few, m.within, n.few, n.within, h, c.requires.room)) n
+    rw (c.put.ensures.written, c.put.ensures.is) (made_arm c.args.from.depth c.args.from.symbols.now c.args.from.next c.args.from.used _ _ c.in_ok-c.c m h q _ c.in_ok-q.q (omega (arith, m.few, m.within, n.few, n.within, h, c.requires.room)) n)
 
 pub arms-returns-in_err-at : goal.arms-returns-in_err-at
 arms-returns-in_err-at t c =
@@ -44,7 +44,7 @@ arms-loop-inside-preserved t c =
     let v = c.loop-inside.invariant in
     let h = c.peek.ensures.there (far ELSEIF _ refl e) in
     let m = c.in_ok-a.ensures in
-    further_arm c.args.from.depth c.args.from.symbols.now c.args.from.next c.args.from.used _ _ c.loop-inside.at v.0 v.1 h (sym c.peek.ensures.is ∙ e) _ c.in_ok-a.a (omega (arith, m.few, m.within, v.1, h, c.requires.room)) m
+    rw (c.put-at.ensures.written, c.put-at.ensures.is) (further_arm c.args.from.depth c.args.from.symbols.now c.args.from.next c.args.from.used _ _ c.loop-inside.at v.0 v.1 h (sym c.peek.ensures.is ∙ e) _ c.in_ok-a.a (omega (arith, m.few, m.within, v.1, h, c.requires.room)) m)
 
 pub arms-returns : goal.arms-returns
 arms-returns t c =
@@ -67,20 +67,20 @@ block-returns t c =
     let q = c.in_ok-expect.ensures in
     let h = inside _ _ ENDBLOCK refl q in
     let m = c.in_ok-b.ensures in
-    made_block c.args.from.depth c.args.from.symbols.now c.args.from.next c.args.from.used c.requires.there c.requires.opening c.in_ok-depth.depth c.in_ok-depth.ensures _ _ c.in_ok-b.b m h q (omega (arith, m.few, h, c.requires.room))
+    rw (c.put.ensures.written, c.put.ensures.is) (made_block c.args.from.depth c.args.from.symbols.now c.args.from.next c.args.from.used c.requires.there c.requires.opening c.in_ok-depth.depth c.in_ok-depth.ensures _ _ c.in_ok-b.b m h q (omega (arith, m.few, h, c.requires.room)))
 
 pub body-returns : goal.body-returns
 body-returns t c =
     let m = c.in_ok-l.ensures in
     let n = c.in_ok-q.ensures in
-    made_body c.args.from.depth c.args.from.symbols.now c.args.from.next c.args.from.used _ _ c.in_ok-l.l m 1 _ c.in_ok-q.q (omega (arith, m.few, n.few, n.within, c.requires.room)) n
+    rw (c.put.ensures.written, c.put.ensures.is) (made_body c.args.from.depth c.args.from.symbols.now c.args.from.next c.args.from.used _ _ c.in_ok-l.l m 1 _ c.in_ok-q.q (omega (arith, m.few, n.few, n.within, c.requires.room)) n)
 
 pub branch-returns-in-End : goal.branch-returns-in-End
 branch-returns-in-End t c =
     let n = c.in-End.ensures in
     let h = n.there (far END _ refl refl) in
     let m = c.in_ok-w.ensures in
-    made_branch c.args.from.depth c.args.from.symbols.now c.args.from.next c.args.from.used _ _ c.in_ok-w.w m.0 m.1 h (omega arith) _ (λ j l. refl) (sym n.is) (omega (arith, m.1, h, c.requires.room))
+    rw (c.put.ensures.written, c.put.ensures.is) (made_branch c.args.from.depth c.args.from.symbols.now c.args.from.next c.args.from.used _ _ c.in_ok-w.w m.0 m.1 h (omega arith) _ (λ j l. refl) (sym n.is) (omega (arith, m.1, h, c.requires.room)))
 
 pub otherwise-returns-in_err-q : goal.otherwise-returns-in_err-q
 otherwise-returns-in_err-q t c =
@@ -97,7 +97,7 @@ otherwise-returns t c =
     let q = c.in_ok-expect.ensures in
     let h = inside _ _ END refl q in
     let m = c.in_ok-q.ensures in
-    made_else c.args.from.depth c.args.from.symbols.now c.args.from.next c.args.from.used _ _ c.args.at c.requires.begun c.requires.few c.requires.there c.requires.deep c.requires.behind _ c.in_ok-q.q m h q (omega (arith, m.few, h, c.requires.few, c.requires.room))
+    rw (c.put.ensures.written, c.put.ensures.is) (made_else c.args.from.depth c.args.from.symbols.now c.args.from.next c.args.from.used _ _ c.args.at c.requires.begun c.requires.few c.requires.there c.requires.deep c.requires.behind _ c.in_ok-q.q m h q (omega (arith, m.few, h, c.requires.few, c.requires.room)))
 
 pub repeat-returns-in_err-e : goal.repeat-returns-in_err-e
 repeat-returns-in_err-e t c =
@@ -135,7 +135,7 @@ repeat-returns t c =
     let i = inside _ _ REP refl x in
     let m = c.in_ok-e.ensures in
     let n = c.in_ok-b.ensures in
-    made_repeat c.args.from.depth c.args.from.symbols.now c.args.from.next c.args.from.used c.requires.there c.in_ok-depth.depth c.in_ok-depth.ensures _ _ _ c.in_ok-e.e c.in_ok-b.b h q i x (omega (arith, m.few, n.few, h, i, c.requires.room)) c.requires.opening m n
+    rw (c.put.ensures.written, c.put.ensures.is) (made_repeat c.args.from.depth c.args.from.symbols.now c.args.from.next c.args.from.used c.requires.there c.in_ok-depth.depth c.in_ok-depth.ensures _ _ _ c.in_ok-e.e c.in_ok-b.b h q i x (omega (arith, m.few, n.few, h, i, c.requires.room)) c.requires.opening m n)
 
 pub while_loop-returns-in_err-c : goal.while_loop-returns-in_err-c
 while_loop-returns-in_err-c t c =
@@ -173,7 +173,7 @@ while_loop-returns t c =
     let i = inside _ _ REP refl x in
     let m = c.in_ok-c.ensures in
     let n = c.in_ok-q.ensures in
-    made_loop c.args.from.depth c.args.from.symbols.now c.args.from.next c.args.from.used c.requires.there c.in_ok-depth.depth c.in_ok-depth.ensures _ _ _ c.in_ok-c.c c.in_ok-q.q h q i x (omega (arith, m.few, n.few, h, i, c.requires.room)) c.requires.opening m n
+    rw (c.put.ensures.written, c.put.ensures.is) (made_loop c.args.from.depth c.args.from.symbols.now c.args.from.next c.args.from.used c.requires.there c.in_ok-depth.depth c.in_ok-depth.ensures _ _ _ c.in_ok-c.c c.in_ok-q.q h q i x (omega (arith, m.few, n.few, h, i, c.requires.room)) c.requires.opening m n)
 
 pub sequence-returns-in_err-at : goal.sequence-returns-in_err-at
 sequence-returns-in_err-at t c =
@@ -195,7 +195,7 @@ sequence-loop-behind-preserved t c =
     let h = c.peek.ensures.there (far SEMI _ refl e) in
     let m = c.in_ok-e.ensures in
     let v = c.loop-behind.invariant in
-    goes 1 (omega arith) statements (all statements) statements_begin c.args.from.depth c.args.from.symbols.now c.args.from.next c.args.from.used _ _ c.loop-behind.at v h (sym c.peek.ensures.is ∙ e) _ c.in_ok-e.e (omega (arith, m.few, m.within, v.few, h, c.requires.room)) m
+    rw (c.put-at.ensures.written, c.put-at.ensures.is) (goes 1 (omega arith) statements (all statements) statements_begin c.args.from.depth c.args.from.symbols.now c.args.from.next c.args.from.used _ _ c.loop-behind.at v h (sym c.peek.ensures.is ∙ e) _ c.in_ok-e.e (omega (arith, m.few, m.within, v.few, h, c.requires.room)) m)
 
 pub sequence-returns : goal.sequence-returns
 sequence-returns t c = ends 1 (omega arith) statements (all statements) statements_begin c.args.from.depth c.args.from.symbols.now c.args.from.next c.args.from.used _ _ c.loop-behind.at c.loop-behind.invariant _ c.in_ok-at.ensures.kept (λ e. (said _ _ _ c.loop-behind-test.ensures) (c.peek.ensures.is ∙ e))
@@ -203,4 +203,4 @@ sequence-returns t c = ends 1 (omega arith) statements (all statements) statemen
 pub statement-returns-in_default : goal.statement-returns-in_default
 statement-returns-in_default t c =
     let is = c.peek.ensures.is in
-    made_dummy c.args.from.depth c.args.from.symbols.now c.args.from.next c.args.from.used c.args.nodes.now c.requires.within (omega arith) (λ e. c.in_default.not-Block (is ∙ e)) (λ e. c.in_default.not-If (is ∙ e)) (λ e. c.in_default.not-To (is ∙ e)) (λ e. c.in_default.not-While (is ∙ e)) (λ e. c.in_default.not-Return (is ∙ e)) (λ e. c.in_default.not-Val (is ∙ e)) (λ e. c.in_default.not-Name (is ∙ e))
+    rw (c.put.ensures.written, c.put.ensures.is) (made_dummy c.args.from.depth c.args.from.symbols.now c.args.from.next c.args.from.used c.args.nodes.now c.requires.within (omega arith) (λ e. c.in_default.not-Block (is ∙ e)) (λ e. c.in_default.not-If (is ∙ e)) (λ e. c.in_default.not-To (is ∙ e)) (λ e. c.in_default.not-While (is ∙ e)) (λ e. c.in_default.not-Return (is ∙ e)) (λ e. c.in_default.not-Val (is ∙ e)) (λ e. c.in_default.not-Name (is ∙ e)))

@@ -1,4 +1,5 @@
-use Rattle.std.proofs.Common.{◌+◌, ◌-◌, ◌*◌, ◌<◌, length}
+use Rattle.nodes.specs.Made.{Fewer}
+use Rattle.std.proofs.Common.{◌+◌, ◌-◌, ◌*◌, length}
 use Rattle.grammar.specs.Machine.{all, statements}
 use Rattle.nodes.proofs.Repeat.{SomeMade}
 use Rattle.statements.proofs.Blocks.{ArmsMade}
@@ -35,7 +36,7 @@ abbrev pub decreases-while_loop : goal.decreases-while_loop
 decreases-while_loop l = 8 * l.from.depth + 4
 
 abbrev pub invariant-arms-loop-inside : goal.invariant-arms-loop-inside
-invariant-arms-loop-inside l = ArmsMade l.from.depth l.from.symbols.now l.from.next l.from.used l.initial.nodes l.nodes l.at × (l.at.used + 2 * l.from.next < 2 * l.at.next + l.from.used)
+invariant-arms-loop-inside l = ArmsMade l.from.depth l.from.symbols.now l.from.next l.from.used l.initial.nodes l.nodes l.at × Fewer l.from.next l.from.used l.at
 
 abbrev pub decreases-arms-loop-inside : goal.decreases-arms-loop-inside
 decreases-arms-loop-inside l = length l.from.symbols.now - l.at.next

@@ -9,7 +9,7 @@ use Rattle.statements.proofs.bodies.returning.Goals as goal
 pub returns-then-ne : goal.returns-then-ne
 returns-then-ne c =
     let u = c.if-ne.ensures in
-    made_return c.args.from.depth c.args.from.symbols.now c.args.from.next c.args.from.used c.args.nodes.now c.requires.there c.requires.opening (λ e. differs _ _ u (c.peek.ensures.is ∙ e)) (omega arith)
+    rw (c.put.ensures.written, c.put.ensures.is) (made_return c.args.from.depth c.args.from.symbols.now c.args.from.next c.args.from.used c.args.nodes.now c.requires.there c.requires.opening (λ e. differs _ _ u (c.peek.ensures.is ∙ e)) (omega arith))
 
 pub returns-in_err-e : goal.returns-in_err-e
 returns-in_err-e c =
@@ -23,4 +23,4 @@ returns c =
     let u = c.if-ne.ensures in
     let e = agrees _ _ u in
     let m = c.in_ok-e.ensures in
-    made_return_with c.args.from.depth c.args.from.symbols.now c.args.from.next c.args.from.used c.args.nodes.now c.requires.there c.requires.opening (c.peek.ensures.there (far LEFT _ refl e)) (sym c.peek.ensures.is ∙ e) _ c.in_ok-e.e (omega (arith, m)) m.0
+    rw (c.put-2.ensures.written, c.put-2.ensures.is) (made_return_with c.args.from.depth c.args.from.symbols.now c.args.from.next c.args.from.used c.args.nodes.now c.requires.there c.requires.opening (c.peek.ensures.there (far LEFT _ refl e)) (sym c.peek.ensures.is ∙ e) _ c.in_ok-e.e (omega (arith, m)) m.0)
