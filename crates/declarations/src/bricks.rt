@@ -63,12 +63,7 @@ fn arrays<D: Declares>(of: D, from: Spot<'_>, nodes: &mut [Node]) -> Result<Pars
         ..from
     };
     let m = amode(behind, nodes)?;
-    let declared = Spot {
-        next: m.next,
-        used: m.used,
-        ..from
-    };
-    let n = names(of, declared, nodes)?;
+    let n = names(of, from.after(m), nodes)?;
     Ok(put(
         nodes,
         n.used,
@@ -100,12 +95,7 @@ fn variables<D: Declares>(of: D, from: Spot<'_>, nodes: &mut [Node]) -> Result<P
     ensures { ReadsTo 1 (Dec (Listing D.sort)) (IsDec (IsListing D.sort)) (of_dec (of_listing D.sort)) (each (the_decs D.sort) ∷ []) from.entry nodes.old nodes.new result }
 {
     let m = mode(from, nodes)?;
-    let behind = Spot {
-        next: m.next,
-        used: m.used,
-        ..from
-    };
-    let n = names(of, behind, nodes)?;
+    let n = names(of, from.after(m), nodes)?;
     Ok(put(nodes, n.used, Node::Variables(m.root, n.root), n.next))
 }
 

@@ -5,7 +5,7 @@ pub mod bricks;
 pub mod locals;
 
 ghost use Rattle.std.specs.Prelude.{◌≡◌, ℕ, ◌+◌, ◌-◌, ◌*◌, ◌<◌, ◌≤◌, true, [], ◌∷◌, length, MatchResult, slice_index_or};
-ghost use Rattle.nodes.specs.Made.{Fewer, Made, Way, Refused, FieldsWay, Shares, of_shared, NamesWay, Room, ReadsTo, Reads};
+ghost use Rattle.nodes.specs.Made.{Fewer, Made, MadeFrom, Way, Refused, FieldsWay, Shares, of_shared, NamesWay, Room, ReadsTo, Reads};
 ghost use Rattle.nodes.specs.Nodes.{IsExpr, IsMode, IsAmode, IsFields, IsValue, IsValues, IsEntry, IsMany, IsName, IsInit};
 ghost use Rattle.grammar.specs.Symbols.{Says, among, STOP, LEFT, COMMA, REF, ARRAY, PLUS, MINUS};
 ghost use Rattle.grammar.specs.Trees.{Expr, of_expr, Mode, Amode, of_mode, of_amode, Fields, Value, Values, Entry, of_fields, of_value, of_values, of_entry, Many, Init, of_init, of_inits, of_name, of_names};
@@ -118,8 +118,8 @@ fn further(from: Spot<'_>, nodes: &mut [Node], at: Parsed) -> Result<Parsed, Fau
     requires comma { slice_index_or from.symbols.now at.next STOP ≡ COMMA }
     requires there { at.next < length from.symbols.now }
     requires room { Room 0 from nodes.old }
-    requires begun { Made 0 Fields IsFields of_fields (FieldsWay from.depth from.symbols.now from.next) from.symbols.now from.next from.used nodes.old nodes.old at }
-    ensures { MatchResult result (λ p. Made 0 Fields IsFields of_fields (FieldsWay from.entry.depth from.entry.symbols.now from.entry.next) from.entry.symbols.now from.entry.next from.entry.used nodes.old nodes.new p × (at.next < p.next)) (λ f. Refused (the_fields ∷ []) from.entry.depth from.entry.symbols.now from.entry.next f) }
+    requires begun { MadeFrom 0 Fields IsFields of_fields FieldsWay from nodes.old nodes.old at }
+    ensures { MatchResult result (λ p. MadeFrom 0 Fields IsFields of_fields FieldsWay from.entry nodes.old nodes.new p × (at.next < p.next)) (λ f. Refused (the_fields ∷ []) from.entry.depth from.entry.symbols.now from.entry.next f) }
 {
     if from.peek(at.next + 1) == Symbol::Name {
         return Ok(put(
@@ -129,12 +129,7 @@ fn further(from: Spot<'_>, nodes: &mut [Node], at: Parsed) -> Result<Parsed, Fau
             at.next + 2,
         ));
     }
-    let behind = Spot {
-        next: at.next + 1,
-        used: at.used,
-        ..from
-    };
-    let m = mode(behind, nodes)?;
+    let m = mode(from.past(at), nodes)?;
     from.expect(m.next, Symbol::Name)?;
     Ok(put(
         nodes,
@@ -184,15 +179,10 @@ fn list(from: Spot<'_>, nodes: &mut [Node]) -> Result<Parsed, Fault>
     requires room { Room 0 from nodes.old }
     ensures { ReadsTo 0 Value IsValue of_value (a_value ∷ []) from.entry nodes.old nodes.new result }
 {
-    let depth = from.deeper(from.next)?;
+    let inside = from.inside(from.next)?;
     if from.peek(from.next + 1) == Symbol::Right {
         return Ok(put(nodes, from.used, Node::EmptyList(from.next), from.next + 2));
     }
-    let inside = Spot {
-        next: from.next + 1,
-        depth,
-        ..from
-    };
     let v = values(inside, nodes)?;
     from.expect(v.next, Symbol::Right)?;
     Ok(put(nodes, v.used, Node::List(from.next, v.root), v.next + 1))
@@ -237,7 +227,8 @@ fn entry(from: Spot<'_>, nodes: &mut [Node]) -> Result<Parsed, Fault>
     ))
 }
 
-/// Values of a list, separated by commas. (Not `read_list`: tried, and a cycle through a trait leaves its proof to be written by hand.)
+// Not `read_list`: tried, and a cycle through a trait leaves its proof to be written by hand.
+/// Values of a list, separated by commas.
 #[cycle(initials)]
 fn values(from: Spot<'_>, nodes: &mut [Node]) -> Result<Parsed, Fault>
     requires within { from.next ≤ length from.symbols.now }
@@ -246,12 +237,7 @@ fn values(from: Spot<'_>, nodes: &mut [Node]) -> Result<Parsed, Fault>
 {
     let mut at = entry(from, nodes)?;
     while from.peek(at.next) == Symbol::Comma {
-        let behind = Spot {
-            next: at.next + 1,
-            used: at.used,
-            ..from
-        };
-        let e = entry(behind, nodes)?;
+        let e = entry(from.past(at), nodes)?;
         at = put(nodes, e.used, Node::Also(at.root, e.root), e.next);
     }
     Ok(at)
@@ -264,11 +250,12 @@ fn shares(from: Spot<'_>, i: usize) -> bool
     from.peek(i) == Symbol::Name && from.peek(i + 1) == Symbol::Becomes
 }
 
+// Not `read_list`: ':=' joins the names, and the last is told by what follows two terminals on.
 /// The names that share an initial value, the first being there.
 fn shared(from: Spot<'_>, nodes: &mut [Node]) -> Parsed
     requires first { Shares from.symbols.now from.next }
     requires room { Room 0 from nodes.old }
-    ensures { Made 0 (Many ℕ) (IsMany IsName) of_shared (NamesWay from.entry.symbols.now from.entry.next) from.entry.symbols.now from.entry.next from.entry.used nodes.old nodes.new result × (Shares from.entry.symbols.now result.next → ⊥) × Fewer from.entry.next from.entry.used result }
+    ensures { MadeFrom 0 (Many ℕ) (IsMany IsName) of_shared (λ d. NamesWay) from.entry nodes.old nodes.new result × (Shares from.entry.symbols.now result.next → ⊥) × Fewer from.entry.next from.entry.used result }
 {
     let mut at = put(nodes, from.used, Node::Name(from.next), from.next + 2);
     while shares(from, at.next) {
@@ -368,12 +355,7 @@ fn initialized<V: Initial>(of: V, from: Spot<'_>, nodes: &mut [Node]) -> Result<
         return Ok(put(nodes, from.used, Node::Plain(from.next), from.next + 1));
     }
     let n = shared(from, nodes);
-    let behind = Spot {
-        next: n.next,
-        used: n.used,
-        ..from
-    };
-    let v = of.value(behind, nodes)?;
+    let v = of.value(from.after(n), nodes)?;
     Ok(put(nodes, v.used, Node::Given(n.root, v.root), v.next))
 }
 

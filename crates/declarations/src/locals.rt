@@ -20,16 +20,12 @@ fn local(from: Spot<'_>, nodes: &mut [Node]) -> Result<Parsed, Fault>
     ensures { ReadsFewer 0 Local IsLocal of_ended LocalWay (Refused (a_body ∷ [])) from.entry nodes.old nodes.new result }
 {
     let m = mode(from, nodes)?;
-    let behind = Spot {
-        next: m.next,
-        used: m.used,
-        ..from
-    };
-    let n = names(InBlock, behind, nodes)?;
+    let n = names(InBlock, from.after(m), nodes)?;
     from.expect(n.next, Symbol::Semi)?;
     Ok(put(nodes, n.used, Node::Local(m.root, n.root), n.next + 1))
 }
 
+// Not `read_list`: no separator stands between them, and there may be none.
 /// The locals of a body, up to where no mode begins.
 pub fn locals(from: Spot<'_>, nodes: &mut [Node]) -> Result<Parsed, Fault>
     requires within { from.next ≤ length from.symbols.now }
@@ -38,12 +34,7 @@ pub fn locals(from: Spot<'_>, nodes: &mut [Node]) -> Result<Parsed, Fault>
 {
     let mut at = put(nodes, from.used, Node::NoLocals, from.next);
     while begins_mode(from.peek(at.next)) {
-        let behind = Spot {
-            next: at.next,
-            used: at.used,
-            ..from
-        };
-        let l = local(behind, nodes)?;
+        let l = local(from.after(at), nodes)?;
         at = put(nodes, l.used, Node::Locals(at.root, l.root), l.next);
     }
     Ok(at)

@@ -3,7 +3,7 @@
 
 ghost use Rattle.std.specs.List.{prefix_len};
 ghost use Rattle.std.specs.Prelude.{◌≡◌, ◌+◌, ◌-◌, ◌*◌, ◌<◌, ◌≤◌, [], ◌∷◌, length, MatchResult, slice_index_or};
-ghost use Rattle.nodes.specs.Made.{Made, Way, Refused, LevelWay, LevelRefused, FormWay, FormRefused, Opening, PartsWay, VariableWay, VariableRefused, Counted, ArgsWay, rank as rank_of, monadics, comparators, Room, ReadsTo, Reads, ReadsFewer};
+ghost use Rattle.nodes.specs.Made.{Made, MadeFrom, Way, Refused, LevelWay, LevelRefused, FormWay, FormRefused, Opening, PartsWay, VariableWay, VariableRefused, Counted, ArgsWay, rank as rank_of, monadics, comparators, Room, ReadsTo, Reads, ReadsFewer};
 ghost use Rattle.nodes.specs.Nodes.{IsExpr, IsExprs, IsPrimary, IsTerm, IsVariable, IsComparison, IsSubcondition, IsCondition};
 ghost use Rattle.grammar.specs.Symbols.{among, STOP, LEFT, RIGHT, NAME};
 ghost use Rattle.grammar.specs.Trees.{Expr, Exprs, Primary, Term, Variable, token, key, of_expr, of_exprs, of_primary, of_term, of_variable, Comparison, Subcondition, Condition, of_comparison, of_subcondition, of_condition};
@@ -16,7 +16,7 @@ use nodes::lists::{Entries, read_list};
 use nodes::{Fault, Node, Parsed, Spot, put};
 
 /// How loosely an operator binds; 5, above them all, for any other terminal.
-// No Option: a level is compared with it at each turn of a loop, where one would be opened each time.
+// No Option: the rules compare ranks as numbers.
 fn rank(c: Symbol) -> usize
     ensures { result ≡ rank_of c }
 {
@@ -55,12 +55,7 @@ pub fn bracketed(from: Spot<'_>, nodes: &mut [Node]) -> Result<Parsed, Fault>
     requires room { Room 0 from nodes.old }
     ensures { ReadsFewer 0 (Expr 5) IsExpr (λ e rest. token LEFT from.entry.next ∷ of_expr e (key RIGHT ∷ rest)) (Way (tok LEFT ∷ an_expr ∷ tok RIGHT ∷ [])) (Refused (tok LEFT ∷ an_expr ∷ tok RIGHT ∷ [])) from.entry nodes.old nodes.new result }
 {
-    let depth = from.deeper(from.next)?;
-    let inside = Spot {
-        next: from.next + 1,
-        depth,
-        ..from
-    };
+    let inside = from.inside(from.next)?;
     let e = expr(inside, nodes)?;
     from.expect(e.next, Symbol::Right)?;
     Ok(Parsed {
@@ -74,18 +69,13 @@ pub fn bracketed(from: Spot<'_>, nodes: &mut [Node]) -> Result<Parsed, Fault>
 pub fn variable(from: Spot<'_>, nodes: &mut [Node], start: Parsed) -> Result<Parsed, Fault>
     requires room { Room 0 from nodes.old }
     requires counted { Counted from.symbols.now from.next from.used start }
-    ensures { (b : Opening) → Made 0 Variable IsVariable of_variable (PartsWay b from.entry.depth from.entry.symbols.now from.entry.next) from.entry.symbols.now from.entry.next from.entry.used nodes.old nodes.old start → Reads 0 Variable IsVariable of_variable (VariableWay b) (VariableRefused b) from.entry nodes.old nodes.new result }
+    ensures { (b : Opening) → MadeFrom 0 Variable IsVariable of_variable (PartsWay b) from.entry nodes.old nodes.old start → Reads 0 Variable IsVariable of_variable (VariableWay b) (VariableRefused b) from.entry nodes.old nodes.new result }
 {
     let mut at = start;
     loop {
         match from.peek(at.next) {
             Symbol::Left => {
-                let bracket = Spot {
-                    next: at.next,
-                    used: at.used,
-                    ..from
-                };
-                let e = bracketed(bracket, nodes)?;
+                let e = bracketed(from.after(at), nodes)?;
                 at = put(
                     nodes,
                     e.used,
@@ -109,6 +99,7 @@ pub fn variable(from: Spot<'_>, nodes: &mut [Node], start: Parsed) -> Result<Par
 
 // Not `read_list`, here and in `level`: the first expression is read before it is known that a list begins; and a cycle of functions through
 // a trait leaves its whole proof to be written by hand (tried at the values of a list).
+// That one may open is asked of the caller, which has the fault where none may.
 /// The further expressions of a call whose name is there, its first expression having been read up to `at`, where a comma is.
 #[cycle(expressions)]
 fn calls(from: Spot<'_>, nodes: &mut [Node], at: Parsed) -> Result<Parsed, Fault>
@@ -149,7 +140,7 @@ fn applied(from: Spot<'_>, nodes: &mut [Node]) -> Result<Parsed, Fault>
     requires room { Room 0 from nodes.old }
     ensures { Reads 0 Primary IsPrimary of_primary FormWay FormRefused from.entry nodes.old nodes.new result }
 {
-    let depth = from.deeper(from.next + 1)?;
+    let inside = from.inside(from.next + 1)?;
     if from.peek(from.next + 2) == Symbol::Right {
         return Ok(put(
             nodes,
@@ -160,10 +151,8 @@ fn applied(from: Spot<'_>, nodes: &mut [Node]) -> Result<Parsed, Fault>
     }
     let name = put(nodes, from.used, Node::Name(from.next), from.next + 1);
     let first = Spot {
-        next: from.next + 2,
-        depth,
         used: name.used,
-        ..from
+        ..inside
     };
     let e = expr(first, nodes)?;
     match from.peek(e.next) {
@@ -246,12 +235,7 @@ fn level(from: Spot<'_>, nodes: &mut [Node], n: usize) -> Result<Parsed, Fault>
     }
     let mut at = level(from, nodes, n - 1)?;
     while rank(from.peek(at.next)) == n - 1 {
-        let operand = Spot {
-            next: at.next + 1,
-            used: at.used,
-            ..from
-        };
-        let e = level(operand, nodes, n - 1)?;
+        let e = level(from.past(at), nodes, n - 1)?;
         at = put(
             nodes,
             e.used,
@@ -297,12 +281,7 @@ fn comparison(from: Spot<'_>, nodes: &mut [Node]) -> Result<Parsed, Fault>
     if !comparator(c) {
         return Err(Fault::Syntax(a.next));
     }
-    let right = Spot {
-        next: a.next + 1,
-        used: a.used,
-        ..from
-    };
-    let b = expr(right, nodes)?;
+    let b = expr(from.past(a), nodes)?;
     Ok(put(nodes, b.used, Node::Compare(c, a.root, b.root), b.next))
 }
 

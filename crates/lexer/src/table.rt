@@ -1,7 +1,7 @@
 //! The table of a text's items.
 ghost use Rattle.std.specs.Prelude.{◌≡◌, ◌-◌, ◌<◌, ◌≤◌, [], ◌∷◌, ◌++◌, length, take, drop, replicate, Some, OnOk, OnErr, IfErr};
 ghost use Rattle.scanner.specs.Seen.{bytes_of, symbol_of};
-ghost use Rattle.symbols.specs.Cut.{covered, entry as entry_of};
+ghost use Rattle.symbols.specs.Cut.{covered, entry as entry_of, max_items};
 ghost use Rattle.symbols.specs.declared.Symbol.TheVariants.{Name};
 
 use answers::{Decline, Place};
@@ -12,12 +12,12 @@ use symbols::{Entry, Symbol};
 pub const MAX_ITEMS: usize = 4096;
 
 /// The items of a text, in their order.
-// No `ArrayVec`: it hides what stands behind its items, and `new` promises blanks there.
+// No `ArrayVec`: it hides what stands behind its items, and `new` has always promised blanks there, which may not go.
 #[derive(Clone, Copy)]
 pub struct ItemTable {
     entries: [Entry; MAX_ITEMS],
     count: usize,
-    ghost few: { count ≤ 4096 },
+    ghost few: { count ≤ max_items },
 }
 
 impl ItemTable {
@@ -26,7 +26,7 @@ impl ItemTable {
     /// A table in which nothing stands yet.
     pub fn new() -> ItemTable
         ensures empty { items_of result ≡ [] }
-        ensures blank { result.entries ≡ replicate 4096 (entry_of Name 0 0) }
+        ensures blank { result.entries ≡ replicate max_items (entry_of Name 0 0) }
     {
         let blank = Entry {
             symbol: Symbol::Name,
@@ -42,7 +42,7 @@ impl ItemTable {
     /// The items that stand in the table.
     pub fn items(&self) -> &[Entry]
         ensures is { result.now ≡ items_of self.now }
-        ensures few { length result.now ≤ 4096 }
+        ensures few { length result.now ≤ max_items }
     {
         &self.entries[..self.count]
     }
@@ -57,7 +57,7 @@ impl ItemTable {
     /// Puts an item behind the others, or declines it where the table is full.
     pub fn push(&mut self, entry: Entry) -> Result<(), Decline>
         ensures put { OnOk result (items_of self.new ≡ items_of self.old ++ (entry ∷ [])) }
-        ensures full { OnErr result ((length (items_of self.old) ≡ 4096) × (items_of self.new ≡ items_of self.old)) }
+        ensures full { OnErr result ((length (items_of self.old) ≡ max_items) × (items_of self.new ≡ items_of self.old)) }
         ensures decline { IfErr result (λ d. d ≡ Decline.TooManyItems entry.start) }
     {
         if self.count == MAX_ITEMS {

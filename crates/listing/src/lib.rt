@@ -25,6 +25,7 @@ pub fn show_item(out: &mut impl Write, item: Item<'_>) -> io::Result<()> {
 
 /// Writes the line of a decline of the text.
 pub fn show_decline(out: &mut impl Write, decline: Decline, text: &[u8]) -> io::Result<()> {
+    // A buffer and a length: the line is written as the call `judge` will hand it out.
     let mut line = [0; LINE_BYTES];
     if let Some(length) = decline.write_line(text, &mut line) {
         out.write_all(&line[..length])?;

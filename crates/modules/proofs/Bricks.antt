@@ -100,9 +100,6 @@ module _ (d : ℕ) (s : List Symbol) (i used : ℕ) (h : i < length s) (q : get_
     one_more : i + 1 + 1 ≡ i + 2
     one_more = omega arith
 
-    two_more : i + 2 + 1 ≡ i + 3
-    two_more = omega arith
-
     named_way : (α : List Goal) → at d (a_brick ∷ α) s i ≡ at d (tok LEFT ∷ maybe_fields ∷ tok RIGHT ∷ maybe_mode ∷ behind α) s (i + 2)
     named_way α = proc_way α ∙ step_at d (tok NAME ∷ tok LEFT ∷ maybe_fields ∷ tok RIGHT ∷ maybe_mode ∷ behind α) (tok LEFT ∷ maybe_fields ∷ tok RIGHT ∷ maybe_mode ∷ behind α) s (i + 1) d NAME h₁ q₁ refl refl ∙ ap (λ (j : ℕ). at d (tok LEFT ∷ maybe_fields ∷ tok RIGHT ∷ maybe_mode ∷ behind α) s j) one_more
 
@@ -111,13 +108,13 @@ module _ (d : ℕ) (s : List Symbol) (i used : ℕ) (h : i < length s) (q : get_
 
     module _ (h₂ : i + 2 < length s) (q₂ : get_or s (i + 2) STOP ≡ LEFT) where
       module _ (z : 0 < d) where
-        left_way : (α : List Goal) → at d (a_brick ∷ α) s i ≡ at (d - 1) (maybe_fields ∷ tok RIGHT ∷ maybe_mode ∷ behind α) s (i + 3)
-        left_way α = named_way α ∙ step_at d (tok LEFT ∷ maybe_fields ∷ tok RIGHT ∷ maybe_mode ∷ behind α) (maybe_fields ∷ tok RIGHT ∷ maybe_mode ∷ behind α) s (i + 2) (d - 1) LEFT h₂ q₂ refl (fewer_is d z) ∙ ap (λ (j : ℕ). at (d - 1) (maybe_fields ∷ tok RIGHT ∷ maybe_mode ∷ behind α) s j) two_more
+        left_way : (α : List Goal) → at d (a_brick ∷ α) s i ≡ at (d - 1) (maybe_fields ∷ tok RIGHT ∷ maybe_mode ∷ behind α) s (i + 2 + 1)
+        left_way α = named_way α ∙ step_at d (tok LEFT ∷ maybe_fields ∷ tok RIGHT ∷ maybe_mode ∷ behind α) (maybe_fields ∷ tok RIGHT ∷ maybe_mode ∷ behind α) s (i + 2) (d - 1) LEFT h₂ q₂ refl (fewer_is d z)
 
-        pub parameters_refused : (f : Fault) → Refused (maybe_fields ∷ []) (d - 1) s (i + 3) f → Refused (a_brick ∷ []) d s i f
+        pub parameters_refused : (f : Fault) → Refused (maybe_fields ∷ []) (d - 1) s (i + 2 + 1) f → Refused (a_brick ∷ []) d s i f
         parameters_refused f r α = left_way α ∙ r (tok RIGHT ∷ maybe_mode ∷ behind α)
 
-        module _ (ns ms : List Node) (p : Parsed) (m : FieldsMade (d - 1) s (i + 3) used ns ms p) where
+        module _ (ns ms : List Node) (p : Parsed) (m : FieldsMade (d - 1) s (i + 2 + 1) used ns ms p) where
           pub no_proc_right : (get_or s p.next STOP ≡ RIGHT → ⊥) → Refused (a_brick ∷ []) d s i (Syntax p.next)
           no_proc_right n α = left_way α ∙ m.met (tok RIGHT ∷ maybe_mode ∷ behind α) ∙ token_refused (d - 1) RIGHT (maybe_mode ∷ behind α) s p.next n
 
@@ -137,7 +134,7 @@ module _ (d : ℕ) (s : List Symbol) (i used : ℕ) (h : i < length s) (q : get_
                 grown 0 (IsHead i) (of_head i) (HeadWay d s i) s i used ns os e.used (e.next + 1) (node.Heading (i + 1) (i + 2) p.root e.root) r (m.tree, o.tree) (omega arith) (omega (arith, m.more, o.more)) (omega (arith, m.few, o.few))
                     (agree_trans used p.used ns ms os m.more m.kept o.kept)
                     (λ g a. (p.root, e.root, omega (arith, m.below, o.more), o.below, a, keep_opt e.used os _ g IsFields (keep_fields e.used os _ g) m.tree p.root (omega (arith, m.below, o.more)) (keep_opt p.used ms os o.kept IsFields (keep_fields p.used ms os o.kept) m.tree p.root m.below m.is), keep_opt e.used os _ g IsMode (keep_mode e.used os _ g) o.tree e.root o.below o.is))
-                    (items_here s i PROC h q ∙ ap (λ (v : List Token). key PROC ∷ v) (items_here s (i + 1) NAME h₁ q₁ ∙ ap (λ (j : ℕ). token NAME (i + 1) ∷ items j (drop j s)) one_more ∙ ap (λ (v : List Token). token NAME (i + 1) ∷ v) (items_here s (i + 2) LEFT h₂ q₂ ∙ ap (λ (j : ℕ). token LEFT (i + 2) ∷ items j (drop j s)) two_more ∙ ap (λ (v : List Token). token LEFT (i + 2) ∷ v) (m.text ∙ ap (of_opt of_fields m.tree) (items_here s p.next RIGHT h₃ q₃ ∙ ap (λ (v : List Token). key RIGHT ∷ v) (o.text ∙ ap (of_opt of_mode o.tree) (items_here s e.next SEMI h₄ q₄)))))))
+                    (items_here s i PROC h q ∙ ap (λ (v : List Token). key PROC ∷ v) (items_here s (i + 1) NAME h₁ q₁ ∙ ap (λ (j : ℕ). token NAME (i + 1) ∷ items j (drop j s)) one_more ∙ ap (λ (v : List Token). token NAME (i + 1) ∷ v) (items_here s (i + 2) LEFT h₂ q₂ ∙ ap (λ (v : List Token). token LEFT (i + 2) ∷ v) (m.text ∙ ap (of_opt of_fields m.tree) (items_here s p.next RIGHT h₃ q₃ ∙ ap (λ (v : List Token). key RIGHT ∷ v) (o.text ∙ ap (of_opt of_mode o.tree) (items_here s e.next SEMI h₄ q₄)))))))
                     (λ α. right_way α ∙ o.met (behind α) ∙ step_at d (behind α) (a_body ∷ tok ENDPROC ∷ α) s e.next d SEMI h₄ q₄ refl refl),
                 omega (arith, m.few, o.few),
               )
@@ -145,6 +142,9 @@ module _ (d : ℕ) (s : List Symbol) (i used : ℕ) (h : i < length s) (q : get_
 -- a procedure
 module _ (d : ℕ) (s : List Symbol) (i used : ℕ) (ns ms : List Node) (p : Parsed) (m : HeadMade d s i used ns ms p) (few : Fewer (i + 1) used p) where
   module _ (os : List Node) (b : Parsed) (o : BodyMade d s p.next p.used ms os b) where
+    pub no_endproc : (get_or s b.next STOP ≡ ENDPROC → ⊥) → Refused (a_brick ∷ []) d s i (Syntax b.next)
+    no_endproc n α = m.met α ∙ o.met (tok ENDPROC ∷ α) ∙ token_refused d ENDPROC α s b.next n
+
     pub made_procedure : b.next < length s → get_or s b.next STOP ≡ ENDPROC → b.used < length os → BrickMade d s i used ns (set os b.used (node.Procedure p.root b.root b.next)) (record { next = b.next + 1; used = b.used + 1; root = b.used }) × (b.used + 1 + 2 * i < 2 * (b.next + 1) + used)
     made_procedure h q r = (
       grown 0 IsBrick of_brick (Way (a_brick ∷ []) d s i) s i used ns os b.used (b.next + 1) (node.Procedure p.root b.root b.next) r (procedure (i + 1) (i + 2) m.tree.0 m.tree.1 o.tree b.next) (omega arith) (omega (arith, m.more, o.more)) (omega (arith, few, o.few))

@@ -77,21 +77,18 @@ module _ (d : ℕ) (s : List Symbol) (i used : ℕ) (h : i < length s) (q : get_
     one_more : i + 1 + 1 ≡ i + 2
     one_more = omega arith
 
-    two_more : i + 2 + 1 ≡ i + 3
-    two_more = omega arith
-
     record_way : (α : List Goal) → at d (each moditems ∷ α) s i ≡ at d (tok LEFT ∷ the_fields ∷ tok RIGHT ∷ α) s (i + 2)
     record_way α = mode_way α ∙ step_at d (tok NAME ∷ tok LEFT ∷ the_fields ∷ tok RIGHT ∷ α) (tok LEFT ∷ the_fields ∷ tok RIGHT ∷ α) s (i + 1) d NAME h₁ q₁ refl refl ∙ ap (λ (j : ℕ). at d (tok LEFT ∷ the_fields ∷ tok RIGHT ∷ α) s j) one_more
 
     module _ (h₂ : i + 2 < length s) (q₂ : get_or s (i + 2) STOP ≡ LEFT) where
       module _ (z : 0 < d) where
-        inside_way : (α : List Goal) → at d (each moditems ∷ α) s i ≡ at (d - 1) (the_fields ∷ tok RIGHT ∷ α) s (i + 3)
-        inside_way α = record_way α ∙ step_at d (tok LEFT ∷ the_fields ∷ tok RIGHT ∷ α) (the_fields ∷ tok RIGHT ∷ α) s (i + 2) (d - 1) LEFT h₂ q₂ refl (fewer_is d z) ∙ ap (λ (j : ℕ). at (d - 1) (the_fields ∷ tok RIGHT ∷ α) s j) two_more
+        inside_way : (α : List Goal) → at d (each moditems ∷ α) s i ≡ at (d - 1) (the_fields ∷ tok RIGHT ∷ α) s (i + 2 + 1)
+        inside_way α = record_way α ∙ step_at d (tok LEFT ∷ the_fields ∷ tok RIGHT ∷ α) (the_fields ∷ tok RIGHT ∷ α) s (i + 2) (d - 1) LEFT h₂ q₂ refl (fewer_is d z)
 
-        pub components_refused : (f : Fault) → Refused (the_fields ∷ []) (d - 1) s (i + 3) f → Refused (each moditems ∷ []) d s i f
+        pub components_refused : (f : Fault) → Refused (the_fields ∷ []) (d - 1) s (i + 2 + 1) f → Refused (each moditems ∷ []) d s i f
         components_refused f r α = inside_way α ∙ r (tok RIGHT ∷ α)
 
-        module _ (ns ms : List Node) (p : Parsed) (m : FieldsMade (d - 1) s (i + 3) used ns ms p) where
+        module _ (ns ms : List Node) (p : Parsed) (m : FieldsMade (d - 1) s (i + 2 + 1) used ns ms p) where
           pub no_record_right : (get_or s p.next STOP ≡ RIGHT → ⊥) → Refused (each moditems ∷ []) d s i (Syntax p.next)
           no_record_right n α = inside_way α ∙ m.met (tok RIGHT ∷ α) ∙ token_refused (d - 1) RIGHT α s p.next n
 
@@ -99,16 +96,13 @@ module _ (d : ℕ) (s : List Symbol) (i used : ℕ) (h : i < length s) (q : get_
           made_record h₃ q₃ r =
               grown 1 IsModitem of_moditem (Way (each moditems ∷ []) d s i) s i used ns ms p.used (p.next + 1) (node.RecordMode (i + 1) (i + 2) p.root) r (record_mode (i + 1) (i + 2) m.tree) (omega arith) m.more (omega (arith, m.few)) m.kept
               (λ g x. (p.root, m.below, x, keep_fields p.used ms _ g m.tree p.root m.below m.is))
-              (items_here s i MODE h q ∙ ap (λ (v : List Token). key MODE ∷ v) (items_here s (i + 1) NAME h₁ q₁ ∙ ap (λ (j : ℕ). token NAME (i + 1) ∷ items j (drop j s)) one_more ∙ ap (λ (v : List Token). token NAME (i + 1) ∷ v) (items_here s (i + 2) LEFT h₂ q₂ ∙ ap (λ (j : ℕ). token LEFT (i + 2) ∷ items j (drop j s)) two_more ∙ ap (λ (v : List Token). token LEFT (i + 2) ∷ v) (m.text ∙ ap (of_fields m.tree) (items_here s p.next RIGHT h₃ q₃)))))
+              (items_here s i MODE h q ∙ ap (λ (v : List Token). key MODE ∷ v) (items_here s (i + 1) NAME h₁ q₁ ∙ ap (λ (j : ℕ). token NAME (i + 1) ∷ items j (drop j s)) one_more ∙ ap (λ (v : List Token). token NAME (i + 1) ∷ v) (items_here s (i + 2) LEFT h₂ q₂ ∙ ap (λ (v : List Token). token LEFT (i + 2) ∷ v) (m.text ∙ ap (of_fields m.tree) (items_here s p.next RIGHT h₃ q₃)))))
               (λ α. inside_way α ∙ m.met (tok RIGHT ∷ α) ∙ step_at (d - 1) (tok RIGHT ∷ α) α s p.next d RIGHT h₃ q₃ refl (more_is d z))
 
 -- what is described as external
 module _ (d : ℕ) (s : List Symbol) (i used : ℕ) (h : i < length s) (q : get_or s i STOP ≡ EXT) where
   two : i + 1 + 1 ≡ i + 2
   two = omega arith
-
-  three : i + 2 + 1 ≡ i + 3
-  three = omega arith
 
   ext_way : (α : List Goal) → at d (each moditems ∷ α) s i ≡ at d (an_external ∷ α) s (i + 1)
   ext_way α = step_at d (each moditems ∷ α) (an_external ∷ α) s i d EXT h q refl refl
@@ -137,13 +131,13 @@ module _ (d : ℕ) (s : List Symbol) (i used : ℕ) (h : i < length s) (q : get_
 
       module _ (h₂ : i + 2 < length s) (q₂ : get_or s (i + 2) STOP ≡ LEFT) where
         module _ (z : 0 < d) where
-          ext_left_way : (α : List Goal) → at d (each moditems ∷ α) s i ≡ at (d - 1) (maybe_modes ∷ tok RIGHT ∷ maybe_mode ∷ all (declareds unset) ∷ α) s (i + 3)
-          ext_left_way α = ext_proc_way α ∙ step_at d (tok LEFT ∷ maybe_modes ∷ tok RIGHT ∷ maybe_mode ∷ all (declareds unset) ∷ α) (maybe_modes ∷ tok RIGHT ∷ maybe_mode ∷ all (declareds unset) ∷ α) s (i + 2) (d - 1) LEFT h₂ q₂ refl (fewer_is d z) ∙ ap (λ (j : ℕ). at (d - 1) (maybe_modes ∷ tok RIGHT ∷ maybe_mode ∷ all (declareds unset) ∷ α) s j) three
+          ext_left_way : (α : List Goal) → at d (each moditems ∷ α) s i ≡ at (d - 1) (maybe_modes ∷ tok RIGHT ∷ maybe_mode ∷ all (declareds unset) ∷ α) s (i + 2 + 1)
+          ext_left_way α = ext_proc_way α ∙ step_at d (tok LEFT ∷ maybe_modes ∷ tok RIGHT ∷ maybe_mode ∷ all (declareds unset) ∷ α) (maybe_modes ∷ tok RIGHT ∷ maybe_mode ∷ all (declareds unset) ∷ α) s (i + 2) (d - 1) LEFT h₂ q₂ refl (fewer_is d z)
 
-          pub ext_modes_refused : (f : Fault) → Refused (maybe_modes ∷ []) (d - 1) s (i + 3) f → Refused (each moditems ∷ []) d s i f
+          pub ext_modes_refused : (f : Fault) → Refused (maybe_modes ∷ []) (d - 1) s (i + 2 + 1) f → Refused (each moditems ∷ []) d s i f
           ext_modes_refused f r α = ext_left_way α ∙ r (tok RIGHT ∷ maybe_mode ∷ all (declareds unset) ∷ α)
 
-          module _ (ns ms : List Node) (p : Parsed) (m : ModesMade (d - 1) s (i + 3) used ns ms p) where
+          module _ (ns ms : List Node) (p : Parsed) (m : ModesMade (d - 1) s (i + 2 + 1) used ns ms p) where
             pub no_ext_right : (get_or s p.next STOP ≡ RIGHT → ⊥) → Refused (each moditems ∷ []) d s i (Syntax p.next)
             no_ext_right n α = ext_left_way α ∙ m.met (tok RIGHT ∷ maybe_mode ∷ all (declareds unset) ∷ α) ∙ token_refused (d - 1) RIGHT (maybe_mode ∷ all (declareds unset) ∷ α) s p.next n
 
@@ -180,7 +174,7 @@ module _ (d : ℕ) (s : List Symbol) (i used : ℕ) (h : i < length s) (q : get_
                       keep_opt t.used xs _ g IsMode (keep_mode t.used xs _ g) o.tree e.root le (keep_opt e.used os xs b.kept IsMode (keep_mode e.used os xs b.kept) o.tree e.root o.below o.is),
                       keep_many t.used xs _ g IsName (keep_name t.used xs _ g) b.tree t.root b.below b.is,
                     ))
-                    (items_here s i EXT h q ∙ ap (λ (v : List Token). key EXT ∷ v) (items_here s (i + 1) PROC h₁ q₁ ∙ ap (λ (j : ℕ). key PROC ∷ items j (drop j s)) two ∙ ap (λ (v : List Token). key PROC ∷ v) (items_here s (i + 2) LEFT h₂ q₂ ∙ ap (λ (j : ℕ). token LEFT (i + 2) ∷ items j (drop j s)) three ∙ ap (λ (v : List Token). token LEFT (i + 2) ∷ v) (m.text ∙ ap (of_opt (of_many of_mode COMMA) m.tree) (items_here s p.next RIGHT h₃ q₃ ∙ ap (λ (v : List Token). key RIGHT ∷ v) (o.text ∙ ap (of_opt of_mode o.tree) b.text))))))
+                    (items_here s i EXT h q ∙ ap (λ (v : List Token). key EXT ∷ v) (items_here s (i + 1) PROC h₁ q₁ ∙ ap (λ (j : ℕ). key PROC ∷ items j (drop j s)) two ∙ ap (λ (v : List Token). key PROC ∷ v) (items_here s (i + 2) LEFT h₂ q₂ ∙ ap (λ (v : List Token). token LEFT (i + 2) ∷ v) (m.text ∙ ap (of_opt (of_many of_mode COMMA) m.tree) (items_here s p.next RIGHT h₃ q₃ ∙ ap (λ (v : List Token). key RIGHT ∷ v) (o.text ∙ ap (of_opt of_mode o.tree) b.text))))))
                     (λ α. ext_names_way α ∙ b.met α)
 
 -- the whole

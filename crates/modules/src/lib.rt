@@ -6,7 +6,7 @@ ghost use Rattle.grammar.specs.Symbols.{among, STOP, COMMA, DATA, PROC, EXT, MOD
 ghost use Rattle.grammar.specs.Trees.{Opt, of_opt, Many, of_many, Dec, Fields, of_fields, Mode, of_mode, Brick, of_brick, Moditem, of_moditem, Module, of_module};
 ghost use Rattle.grammar.specs.Sentences.{fine, Made as MadeOf};
 ghost use Rattle.grammar.specs.Machine.{each, all, moditems, maybe_fields, maybe_mode, maybe_modes, a_brick, a_module, run};
-ghost use Rattle.nodes.specs.Made.{Fewer, Made, Way, Refused, answer, Room, ReadsTo, ReadsFewer};
+ghost use Rattle.nodes.specs.Made.{Fewer, MadeFrom, Way, Refused, answer, Room, ReadsTo, ReadsFewer};
 ghost use Rattle.nodes.specs.Nodes.{IsOpt, IsMany, IsDec, IsFields, IsMode, IsBrick, IsModitem, IsModule};
 ghost use Rattle.declarations.specs.Declaring.{Listing, IsListing};
 ghost use Rattle.modules.specs.Bricks.{brick_firsts, Storing, of_storing, Head, of_head, IsHead, HeadWay};
@@ -102,24 +102,14 @@ fn heading(from: Spot<'_>, nodes: &mut [Node]) -> Result<Parsed, Fault>
     requires opening { slice_index_or from.symbols.now from.next STOP ≡ PROC }
     requires there { from.next < length from.symbols.now }
     requires room { Room 0 from nodes.old }
-    ensures { MatchResult result (λ p. Made 0 Head (IsHead from.entry.next) (of_head from.entry.next) (HeadWay from.entry.depth from.entry.symbols.now from.entry.next) from.entry.symbols.now from.entry.next from.entry.used nodes.old nodes.new p × Fewer (from.entry.next + 1) from.entry.used p) (λ f. Refused (a_brick ∷ []) from.entry.depth from.entry.symbols.now from.entry.next f) }
+    ensures { MatchResult result (λ p. MadeFrom 0 Head (IsHead from.entry.next) (of_head from.entry.next) HeadWay from.entry nodes.old nodes.new p × Fewer (from.entry.next + 1) from.entry.used p) (λ f. Refused (a_brick ∷ []) from.entry.depth from.entry.symbols.now from.entry.next f) }
 {
     from.expect(from.next + 1, Symbol::Name)?;
     from.expect(from.next + 2, Symbol::Left)?;
-    let depth = from.deeper(from.next + 2)?;
-    let inside = Spot {
-        next: from.next + 3,
-        depth,
-        ..from
-    };
+    let inside = from.inside(from.next + 2)?;
     let f = maybe_fields(inside, nodes)?;
     from.expect(f.next, Symbol::Right)?;
-    let behind = Spot {
-        next: f.next + 1,
-        used: f.used,
-        ..from
-    };
-    let m = maybe_mode(behind, nodes)?;
+    let m = maybe_mode(from.past(f), nodes)?;
     from.expect(m.next, Symbol::Semi)?;
     Ok(put(
         nodes,
@@ -137,12 +127,7 @@ fn procedure(from: Spot<'_>, nodes: &mut [Node]) -> Result<Parsed, Fault>
     ensures { ReadsFewer 0 Brick IsBrick of_brick (Way (a_brick ∷ [])) (Refused (a_brick ∷ [])) from.entry nodes.old nodes.new result }
 {
     let h = heading(from, nodes)?;
-    let behind = Spot {
-        next: h.next,
-        used: h.used,
-        ..from
-    };
-    let b = body(behind, nodes)?;
+    let b = body(from.after(h), nodes)?;
     from.expect(b.next, Symbol::Endproc)?;
     Ok(put(
         nodes,
@@ -174,26 +159,11 @@ fn external_procs(from: Spot<'_>, nodes: &mut [Node]) -> Result<Parsed, Fault>
     ensures { ReadsTo 1 Moditem IsModitem of_moditem (each moditems ∷ []) from.entry nodes.old nodes.new result }
 {
     from.expect(from.next + 2, Symbol::Left)?;
-    let depth = from.deeper(from.next + 2)?;
-    let inside = Spot {
-        next: from.next + 3,
-        depth,
-        ..from
-    };
+    let inside = from.inside(from.next + 2)?;
     let p = maybe_modes(inside, nodes)?;
     from.expect(p.next, Symbol::Right)?;
-    let behind = Spot {
-        next: p.next + 1,
-        used: p.used,
-        ..from
-    };
-    let m = maybe_mode(behind, nodes)?;
-    let last = Spot {
-        next: m.next,
-        used: m.used,
-        ..from
-    };
-    let n = names(Described, last, nodes)?;
+    let m = maybe_mode(from.past(p), nodes)?;
+    let n = names(Described, from.after(m), nodes)?;
     Ok(put(
         nodes,
         n.used,
@@ -246,12 +216,7 @@ fn record_mode(from: Spot<'_>, nodes: &mut [Node]) -> Result<Parsed, Fault>
 {
     from.expect(from.next + 1, Symbol::Name)?;
     from.expect(from.next + 2, Symbol::Left)?;
-    let depth = from.deeper(from.next + 2)?;
-    let inside = Spot {
-        next: from.next + 3,
-        depth,
-        ..from
-    };
+    let inside = from.inside(from.next + 2)?;
     let f = fields(inside, nodes)?;
     from.expect(f.next, Symbol::Right)?;
     Ok(put(

@@ -44,10 +44,14 @@ Refused β d s i f = (α : List Goal) → at d (β ++ α) s i ≡ answer f
 abbrev pub Room : ℕ → Spot → List Node → Type 0
 Room x a ns = a.used + x + 2 * length a.symbols.now ≤ length ns + 2 * a.next
 
+-- from the spot a on a tree was read up to p, for which M holds; the nodes ns became ms
+abbrev pub MadeFrom : (x : ℕ) (T : Type 0) → (T → List Node → ℕ → Type 0) → Spelling T → (ℕ → List Symbol → ℕ → T → ℕ → Type 0) → Spot → List Node → List Node → Parsed → Type 0
+MadeFrom x T Is of M a ns ms p = Made x T Is of (M a.depth a.symbols.now a.next) a.symbols.now a.next a.used ns ms p
+
 -- What reading from a spot answers: where M holds for a tree from there to a place, this tree; or a fault of which F holds. The nodes
 -- ns became ms.
 abbrev pub Reads : (x : ℕ) (T : Type 0) → (T → List Node → ℕ → Type 0) → Spelling T → (ℕ → List Symbol → ℕ → T → ℕ → Type 0) → (ℕ → List Symbol → ℕ → Fault → Type 0) → Spot → List Node → List Node → Result Parsed Fault → Type 0
-Reads x T Is of M F a ns ms r = MatchResult r (λ p. Made x T Is of (M a.depth a.symbols.now a.next) a.symbols.now a.next a.used ns ms p) (λ f. F a.depth a.symbols.now a.next f)
+Reads x T Is of M F a ns ms r = MatchResult r (MadeFrom x T Is of M a ns ms) (λ f. F a.depth a.symbols.now a.next f)
 
 -- the same where the goals β are met by what was read
 abbrev pub ReadsTo : (x : ℕ) (T : Type 0) → (T → List Node → ℕ → Type 0) → Spelling T → List Goal → Spot → List Node → List Node → Result Parsed Fault → Type 0
@@ -59,7 +63,7 @@ Fewer i used p = p.used + 2 * i < 2 * p.next + used
 
 -- the same, with fewer than two nodes to an item
 abbrev pub ReadsFewer : (x : ℕ) (T : Type 0) → (T → List Node → ℕ → Type 0) → Spelling T → (ℕ → List Symbol → ℕ → T → ℕ → Type 0) → (ℕ → List Symbol → ℕ → Fault → Type 0) → Spot → List Node → List Node → Result Parsed Fault → Type 0
-ReadsFewer x T Is of M F a ns ms r = MatchResult r (λ p. Made x T Is of (M a.depth a.symbols.now a.next) a.symbols.now a.next a.used ns ms p × Fewer a.next a.used p) (λ f. F a.depth a.symbols.now a.next f)
+ReadsFewer x T Is of M F a ns ms r = MatchResult r (λ p. MadeFrom x T Is of M a ns ms p × Fewer a.next a.used p) (λ f. F a.depth a.symbols.now a.next f)
 
 -- An expression of level n is followed by no operator of a lower level.
 abbrev pub rank : Symbol → ℕ

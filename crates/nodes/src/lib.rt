@@ -4,7 +4,7 @@
 pub mod lists;
 
 ghost use Rattle.nodes.specs.declared.Fault.TheVariants.{Syntax, Deep};
-ghost use Rattle.std.specs.Prelude.{MatchResult, ◌-◌, ◌+◌, ◌≡◌, ◌<◌, length, ◌≢◌, slice_index_or, slice_set};
+ghost use Rattle.std.specs.Prelude.{MatchResult, ◌-◌, ◌+◌, ◌≡◌, ◌<◌, ◌≤◌, length, ◌≢◌, slice_index_or, slice_set};
 ghost use Rattle.grammar.specs.Symbols.{STOP};
 
 use grammar::Symbol;
@@ -104,10 +104,8 @@ pub enum Fault {
 
 /// Where reading stands: the terminals of the module, the number of the next one, how much deeper it may still go (a bracket, BLOCK, IF and
 /// DO each go one deeper), and how many nodes are used.
-// That `next` is within the terminals is a clause, and no ghost field: of a struct with one, Rattle takes no literal with `..from` (tried), and
-// each spot that is made would name all its fields.
-// Where reading goes on is written out as `Spot { next: .., ..from }`: a method with these numbers as arguments would not say which of next,
-// depth and used moved.
+// That `next` is within the terminals, or that a certain one is there, is a clause, and no ghost field: of a struct with one, Rattle takes no
+// literal with `..from` (tried), and each spot that is made would name all its fields.
 // The number of used nodes goes with the spot, and not with the table: a form may be read again from an earlier spot, and then its nodes
 // are overwritten with nothing to take back.
 #[derive(Clone, Copy)]
@@ -151,10 +149,47 @@ impl<'s> Spot<'s> {
         Ok(())
     }
 
+    /// The spot behind what was read.
+    pub fn after(self, read: Parsed) -> Spot<'s>
+        ensures { result ≡ record { symbols = self.entry.symbols; next = read.next; depth = self.entry.depth; used = read.used } }
+    {
+        Spot {
+            next: read.next,
+            used: read.used,
+            ..self
+        }
+    }
+
+    /// The spot behind what was read and the terminal that follows it.
+    pub fn past(self, read: Parsed) -> Spot<'s>
+        requires { read.next < length self.symbols.now }
+        ensures is { result ≡ record { symbols = self.entry.symbols; next = read.next + 1; depth = self.entry.depth; used = read.used } }
+        ensures within { result.next ≤ length result.symbols.now }
+    {
+        Spot {
+            next: read.next + 1,
+            used: read.used,
+            ..self
+        }
+    }
+
     /// How many may still open behind the terminal with the number i, which opens; the fault where none may.
     pub fn deeper(self, i: usize) -> Result<usize, Fault>
         ensures { MatchResult result (λ d. (d ≡ self.entry.depth - 1) × (0 < self.entry.depth)) (λ f. (f ≡ Deep i) × (self.entry.depth ≡ 0)) }
     {
         self.depth.checked_sub(1).ok_or(Fault::Deep(i))
+    }
+
+    /// The spot behind the terminal with the number i, which opens, one deeper; the fault where none may open.
+    pub fn inside(self, i: usize) -> Result<Spot<'s>, Fault>
+        requires { i < length self.symbols.now }
+        ensures { MatchResult result (λ a. (a ≡ record { symbols = self.entry.symbols; next = i + 1; depth = self.entry.depth - 1; used = self.entry.used }) × (0 < self.entry.depth)) (λ f. (f ≡ Deep i) × (self.entry.depth ≡ 0)) }
+    {
+        let depth = self.deeper(i)?;
+        Ok(Spot {
+            next: i + 1,
+            depth,
+            ..self
+        })
     }
 }

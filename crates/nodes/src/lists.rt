@@ -39,12 +39,7 @@ pub fn read_list<L: Entries>(of: L, from: Spot<'_>, nodes: &mut [Node]) -> Resul
 {
     let mut at = of.entry(from, nodes)?;
     while from.peek(at.next) == of.separator() {
-        let next = Spot {
-            next: at.next + 1,
-            used: at.used,
-            ..from
-        };
-        let e = of.entry(next, nodes)?;
+        let e = of.entry(from.past(at), nodes)?;
         at = put(nodes, e.used, Node::Also(at.root, e.root), e.next);
     }
     Ok(at)

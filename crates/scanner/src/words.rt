@@ -80,7 +80,8 @@ const KEYWORDS: [Reserved; 57] = [
 ];
 
 /// The keyword that a name is, if it is one.
-// Not inlined: within `word` its loop is short of registers, and a cut of short items takes a sixth longer.
+// Not the match of `base` below: tried over all keywords, and the cut was slower. Not inlined: within `word` its loop is short of registers,
+// and a cut of short items takes a sixth longer.
 #[inline(never)]
 pub fn keyword(name: &[u8]) -> Option<Keyword>
     ensures { Spelt spelling (uppers name.now) result }

@@ -1,6 +1,6 @@
 //! Reading assignments and calls of procedures into nodes.
 ghost use Rattle.std.specs.Prelude.{◌≡◌, ◌+◌, ◌*◌, ◌<◌, ◌≤◌, [], ◌∷◌, length, MatchResult, slice_index_or};
-ghost use Rattle.nodes.specs.Made.{Fewer, Made, Way, Refused, by_val, VariableWay, VariableRefused, Room, ReadsTo, Reads, ReadsFewer};
+ghost use Rattle.nodes.specs.Made.{Fewer, MadeFrom, Way, Refused, by_val, VariableWay, VariableRefused, Room, ReadsTo, Reads, ReadsFewer};
 ghost use Rattle.nodes.specs.Nodes.{IsMany, IsPrimary, IsVariable, IsDestination, IsStatement, blank_node};
 ghost use Rattle.grammar.specs.Symbols.{Says, STOP, NAME, BECOMES, VAL};
 ghost use Rattle.grammar.specs.Trees.{Many, Primary, Variable, Destination, Statement, of_variable, of_statement};
@@ -111,30 +111,19 @@ fn destination(from: Spot<'_>, nodes: &mut [Node]) -> Result<Option<Parsed>, Fau
     }
 }
 
+// No `read_list`: its entries end in ':=', and whether a further one stands there is known only by reading it.
 /// The rest of an assignment that begins there, its first destination having been read, with the ':=' behind it, up to `first`.
 fn assignment(from: Spot<'_>, nodes: &mut [Node], first: Parsed) -> Result<Parsed, Fault>
     requires room { Room 0 from nodes.old }
-    requires begun { Made 0 (Many Destination) (IsMany IsDestination) of_targets (TargetsWay from.depth from.symbols.now from.next) from.symbols.now from.next from.used nodes.old nodes.old first }
+    requires begun { MadeFrom 0 (Many Destination) (IsMany IsDestination) of_targets TargetsWay from nodes.old nodes.old first }
     requires few { Fewer from.next from.used first }
     ensures { ReadsTo 1 Statement IsStatement of_statement (a_statement ∷ []) from.entry nodes.old nodes.new result }
 {
     let mut at = first;
-    while let Some(d) = destination(
-        Spot {
-            next: at.next,
-            used: at.used,
-            ..from
-        },
-        nodes,
-    )? {
+    while let Some(d) = destination(from.after(at), nodes)? {
         at = put(nodes, d.used, Node::Also(at.root, d.root), d.next);
     }
-    let behind = Spot {
-        next: at.next,
-        used: at.used,
-        ..from
-    };
-    let e = expr(behind, nodes)?;
+    let e = expr(from.after(at), nodes)?;
     Ok(put(nodes, e.used, Node::Assign(at.root, e.root), e.next))
 }
 

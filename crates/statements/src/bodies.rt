@@ -3,7 +3,7 @@ ghost use Rattle.std.specs.Prelude.{◌≡◌, ℕ, ◌+◌, ◌-◌, ◌*◌, �
 ghost use Rattle.grammar.specs.Symbols.{STOP, BLOCK, IF, TO, WHILE, RETURN, THEN, ELSE, ELSEIF};
 ghost use Rattle.grammar.specs.Trees.{Body, Sequence, Statement, Arms, of_body, of_sequence, of_statement, of_arms};
 ghost use Rattle.grammar.specs.Machine.{a_body, a_statement, all, ors, statements, tok};
-ghost use Rattle.nodes.specs.Made.{Fewer, Made, Way, Refused, Room, ReadsTo};
+ghost use Rattle.nodes.specs.Made.{Fewer, MadeFrom, Way, Refused, Room, ReadsTo};
 ghost use Rattle.nodes.specs.Nodes.{IsBody, IsSequence, IsStatement, IsArms};
 ghost use Rattle.statements.specs.Bodies.{Arm, IsArm, of_arm, ArmsWay};
 
@@ -21,12 +21,7 @@ pub fn body(from: Spot<'_>, nodes: &mut [Node]) -> Result<Parsed, Fault>
     ensures { ReadsTo 3 Body IsBody of_body (a_body ∷ []) from.entry nodes.old nodes.new result }
 {
     let l = locals(from, nodes)?;
-    let behind = Spot {
-        next: l.next,
-        used: l.used,
-        ..from
-    };
-    let q = sequence(behind, nodes)?;
+    let q = sequence(from.after(l), nodes)?;
     Ok(put(nodes, q.used, Node::Body(l.root, q.root), q.next))
 }
 
@@ -41,12 +36,7 @@ fn sequence(from: Spot<'_>, nodes: &mut [Node]) -> Result<Parsed, Fault>
 {
     let mut at = statement(from, nodes)?;
     while from.peek(at.next) == Symbol::Semi {
-        let behind = Spot {
-            next: at.next + 1,
-            used: at.used,
-            ..from
-        };
-        let e = statement(behind, nodes)?;
+        let e = statement(from.past(at), nodes)?;
         at = put(nodes, e.used, Node::Also(at.root, e.root), e.next);
     }
     Ok(at)
@@ -78,12 +68,7 @@ fn block(from: Spot<'_>, nodes: &mut [Node]) -> Result<Parsed, Fault>
     requires room { Room 1 from nodes.old }
     ensures { ReadsTo 1 Statement IsStatement of_statement (a_statement ∷ []) from.entry nodes.old nodes.new result }
 {
-    let depth = from.deeper(from.next)?;
-    let inside = Spot {
-        next: from.next + 1,
-        depth,
-        ..from
-    };
+    let inside = from.inside(from.next)?;
     let b = body(inside, nodes)?;
     from.expect(b.next, Symbol::Endblock)?;
     Ok(put(nodes, b.used, Node::Block(b.root), b.next + 1))
@@ -98,15 +83,11 @@ fn arm(from: Spot<'_>, nodes: &mut [Node]) -> Result<Parsed, Fault>
 {
     let c = condition(from, nodes)?;
     from.expect(c.next, Symbol::Then)?;
-    let behind = Spot {
-        next: c.next + 1,
-        used: c.used,
-        ..from
-    };
-    let q = sequence(behind, nodes)?;
+    let q = sequence(from.past(c), nodes)?;
     Ok(put(nodes, q.used, Node::When(c.root, q.root), q.next))
 }
 
+// That one may open is asked of the caller, which has the fault where none may.
 /// IF, being there, and what follows it up to ELSE or END, ELSEIF included.
 #[cycle(statements)]
 fn arms(from: Spot<'_>, nodes: &mut [Node]) -> Result<Parsed, Fault>
@@ -114,7 +95,7 @@ fn arms(from: Spot<'_>, nodes: &mut [Node]) -> Result<Parsed, Fault>
     requires there { from.next < length from.symbols.now }
     requires deep { 0 < from.depth }
     requires room { Room 0 from nodes.old }
-    ensures { MatchResult result (λ p. Made 0 Arms IsArms of_arms (ArmsWay from.entry.depth from.entry.symbols.now from.entry.next) from.entry.symbols.now from.entry.next from.entry.used nodes.old nodes.new p × Fewer from.entry.next from.entry.used p × (slice_index_or from.entry.symbols.now p.next STOP ≢ ELSEIF)) (λ f. Refused (a_statement ∷ []) from.entry.depth from.entry.symbols.now from.entry.next f) }
+    ensures { MatchResult result (λ p. MadeFrom 0 Arms IsArms of_arms ArmsWay from.entry nodes.old nodes.new p × Fewer from.entry.next from.entry.used p × (slice_index_or from.entry.symbols.now p.next STOP ≢ ELSEIF)) (λ f. Refused (a_statement ∷ []) from.entry.depth from.entry.symbols.now from.entry.next f) }
 {
     let inside = Spot {
         next: from.next + 1,
@@ -123,17 +104,13 @@ fn arms(from: Spot<'_>, nodes: &mut [Node]) -> Result<Parsed, Fault>
     };
     let mut at = arm(inside, nodes)?;
     while from.peek(at.next) == Symbol::Elseif {
-        let behind = Spot {
-            next: at.next + 1,
-            used: at.used,
-            ..inside
-        };
-        let a = arm(behind, nodes)?;
+        let a = arm(inside.past(at), nodes)?;
         at = put(nodes, a.used, Node::Also(at.root, a.root), a.next);
     }
     Ok(at)
 }
 
+// That one may open is asked of the caller, which has the fault where none may.
 /// ELSE, being at the end of `at`, the statements behind it, and END.
 #[cycle(statements)]
 fn otherwise(from: Spot<'_>, nodes: &mut [Node], at: Parsed) -> Result<Parsed, Fault>
@@ -142,7 +119,7 @@ fn otherwise(from: Spot<'_>, nodes: &mut [Node], at: Parsed) -> Result<Parsed, F
     requires deep { 0 < from.depth }
     requires room { Room 1 from nodes.old }
     requires few { Fewer from.next from.used at }
-    requires begun { Made 0 Arms IsArms of_arms (ArmsWay from.depth from.symbols.now from.next) from.symbols.now from.next from.used nodes.old nodes.old at }
+    requires begun { MadeFrom 0 Arms IsArms of_arms ArmsWay from nodes.old nodes.old at }
     ensures { ReadsTo 1 Statement IsStatement of_statement (a_statement ∷ []) from.entry nodes.old nodes.new result }
 {
     let inside = Spot {
@@ -187,13 +164,7 @@ fn repeat(from: Spot<'_>, nodes: &mut [Node]) -> Result<Parsed, Fault>
     };
     let e = expr(behind, nodes)?;
     from.expect(e.next, Symbol::Do)?;
-    let depth = from.deeper(e.next)?;
-    let inside = Spot {
-        next: e.next + 1,
-        depth,
-        used: e.used,
-        ..from
-    };
+    let inside = from.after(e).inside(e.next)?;
     let b = body(inside, nodes)?;
     from.expect(b.next, Symbol::Rep)?;
     Ok(put(nodes, b.used, Node::Repeat(e.root, b.root), b.next + 1))
@@ -213,13 +184,7 @@ fn while_loop(from: Spot<'_>, nodes: &mut [Node]) -> Result<Parsed, Fault>
     };
     let c = condition(behind, nodes)?;
     from.expect(c.next, Symbol::Do)?;
-    let depth = from.deeper(c.next)?;
-    let inside = Spot {
-        next: c.next + 1,
-        depth,
-        used: c.used,
-        ..from
-    };
+    let inside = from.after(c).inside(c.next)?;
     let q = sequence(inside, nodes)?;
     from.expect(q.next, Symbol::Rep)?;
     Ok(put(nodes, q.used, Node::Loop(c.root, q.root), q.next + 1))

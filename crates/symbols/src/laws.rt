@@ -1,4 +1,5 @@
 //! The laws of items and of the cut, each the promise of a function.
+// The first three answer a number, and not nothing as such functions do elsewhere: a must-fail edit turns each of these numbers.
 ghost use Rattle.std.specs.Prelude.{◌≡◌, codes};
 ghost use Rattle.symbols.specs.Items.{IsInteger};
 ghost use Rattle.symbols.specs.Laws.{BinIs, Bound, HexIs, InOrder, OneAnswer, OneMeaning, SameIs};

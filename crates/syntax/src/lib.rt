@@ -18,7 +18,7 @@ use symbols::Entry;
 use terminals::classify;
 
 /// How many nodes the tree of a module can have: two for each of its items, and one.
-pub const MAX_NODES: usize = 8193;
+pub const MAX_NODES: usize = 2 * MAX_ITEMS + 1;
 
 /// The nodes of a module's tree, each behind those that it names.
 // Of a fixed size, and no `ArrayVec`: the library has no heap, and reading says in the spot how many are used.
@@ -30,7 +30,7 @@ pub struct NodeTable {
 impl NodeTable {
     /// A table in which nothing stands yet.
     pub fn new() -> NodeTable
-        ensures { result.nodes ≡ replicate 8193 blank_node }
+        ensures { result.nodes ≡ replicate MAX_NODES blank_node }
     {
         NodeTable {
             nodes: [Node::Integer(0); MAX_NODES],
@@ -71,7 +71,8 @@ pub fn read(text: &[u8], items: &mut ItemTable, tree: &mut NodeTable) -> Result<
     ensures { Reads text.now (items_of items.new) tree.new.nodes result }
 {
     cut(text, items)?;
-    // `as`: a text that was cut has at most 32,768 bytes, so an error of `try_from` would never come.
+    // Not the lexer's `place`, which is its own, since it asks for a small number and no public function may. `as`: a text that was cut has at
+    // most 32,768 bytes, so an error of `try_from` would never come.
     let end = Place {
         offset: text.len() as u16,
     };

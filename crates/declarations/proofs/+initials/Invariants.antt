@@ -15,8 +15,8 @@ decreases-value l = 4 * l.from.depth + 1
 abbrev pub decreases-list : goal.decreases-list
 decreases-list l = 4 * l.from.depth
 
-abbrev pub invariant-values-loop-behind : goal.invariant-values-loop-behind
-invariant-values-loop-behind l = SomeMade 0 entries (all entries) l.from.depth l.from.symbols.now l.from.next l.from.used l.initial.nodes l.nodes l.at
+abbrev pub invariant-values-loop-from : goal.invariant-values-loop-from
+invariant-values-loop-from l = SomeMade 0 entries (all entries) l.from.depth l.from.symbols.now l.from.next l.from.used l.initial.nodes l.nodes l.at
 
-abbrev pub decreases-values-loop-behind : goal.decreases-values-loop-behind
-decreases-values-loop-behind l = length l.from.symbols.now - l.at.next
+abbrev pub decreases-values-loop-from : goal.decreases-values-loop-from
+decreases-values-loop-from l = length l.from.symbols.now - l.at.next

@@ -1,7 +1,6 @@
 use Rattle.std.proofs.Common.{◌≡◌, get_or, sym, refl, ◌∙◌, arith}
-use Rattle.std.proofs.lemmas.Result.{err_from_is_err_and}
 use Rattle.grammar.specs.Symbols.{STOP, NAME, INT, BYTE, LEFT, RIGHT}
-use Rattle.nodes.proofs.Results.{otherwise}
+use Rattle.nodes.proofs.Results.{otherwise, passed}
 use Rattle.nodes.proofs.Build.{far, inside}
 use Rattle.declarations.proofs.Modes.{mode_none, simple_refused, made_simple, made_int, made_byte, made_records, target_none, made_ref_int, made_ref_byte, made_ref_record, bare_refused, made_array, dims_deep, dims_unclosed, dims_refused, made_brackets}
 use Rattle.grammar.proofs.Tests.{said, differs, agrees}
@@ -59,8 +58,7 @@ amode-returns t c =
 pub array_mode-returns-in_err-m : goal.array_mode-returns-in_err-m
 array_mode-returns-in_err-m t c =
     let u = c.if-ne.ensures in
-    let p = err_from_is_err_and c.from_residual.result c.from_residual.ensures.1 in
-    rw (p.1, p.2) (bare_refused c.args.from.depth c.args.from.symbols.now c.args.from.next c.args.from.used c.args.nodes.now (omega (arith, c.requires.there)) c.requires.refers c.requires.there c.requires.array (λ e. differs _ _ u (c.peek.ensures.is ∙ e)) _ c.in_err-m.ensures)
+    passed _ _ c.from_residual.result c.from_residual.ensures.1 (bare_refused c.args.from.depth c.args.from.symbols.now c.args.from.next c.args.from.used c.args.nodes.now (omega (arith, c.requires.there)) c.requires.refers c.requires.there c.requires.array (λ e. differs _ _ u (c.peek.ensures.is ∙ e)) _ c.in_err-m.ensures)
 
 pub array_mode-returns-then-ne : goal.array_mode-returns-then-ne
 array_mode-returns-then-ne t c =
@@ -71,15 +69,13 @@ pub array_mode-returns-in_err-deeper : goal.array_mode-returns-in_err-deeper
 array_mode-returns-in_err-deeper t c =
     let e = agrees _ _ c.if-ne.ensures in
     let h = c.peek.ensures.there (far LEFT _ refl e) in
-    let p = err_from_is_err_and c.from_residual-in_err-deeper.result c.from_residual-in_err-deeper.ensures.1 in
-    rw (p.1, p.2, c.in_err-deeper.ensures.0) (dims_deep c.args.from.depth c.args.from.symbols.now c.args.from.next c.args.from.used c.args.nodes.now (omega (arith, c.requires.there)) c.requires.refers c.requires.there c.requires.array h (sym c.peek.ensures.is ∙ e) c.in_err-deeper.ensures.1)
+    passed _ _ c.from_residual-in_err-deeper.result c.from_residual-in_err-deeper.ensures.1 (rw c.in_err-deeper.ensures.0 (dims_deep c.args.from.depth c.args.from.symbols.now c.args.from.next c.args.from.used c.args.nodes.now (omega (arith, c.requires.there)) c.requires.refers c.requires.there c.requires.array h (sym c.peek.ensures.is ∙ e) c.in_err-deeper.ensures.1))
 
 pub array_mode-returns-in_err-expect : goal.array_mode-returns-in_err-expect
 array_mode-returns-in_err-expect t c =
     let e = agrees _ _ c.if-ne.ensures in
     let h = c.peek.ensures.there (far LEFT _ refl e) in
-    let p = err_from_is_err_and c.from_residual-in_err-expect.result c.from_residual-in_err-expect.ensures.1 in
-    rw (p.1, p.2, c.in_err-expect.ensures.0) (dims_unclosed c.args.from.depth c.args.from.symbols.now c.args.from.next c.args.from.used c.args.nodes.now (omega (arith, c.requires.there)) c.requires.refers c.requires.there c.requires.array h (sym c.peek.ensures.is ∙ e) c.in_ok-deeper.ensures.1 c.in_err-expect.ensures.1)
+    passed _ _ c.from_residual-in_err-expect.result c.from_residual-in_err-expect.ensures.1 (rw c.in_err-expect.ensures.0 (dims_unclosed c.args.from.depth c.args.from.symbols.now c.args.from.next c.args.from.used c.args.nodes.now (omega (arith, c.requires.there)) c.requires.refers c.requires.there c.requires.array h (sym c.peek.ensures.is ∙ e) c.in_ok-deeper.ensures.1 c.in_err-expect.ensures.1))
 
 pub array_mode-returns-in_err-m-2 : goal.array_mode-returns-in_err-m-2
 array_mode-returns-in_err-m-2 t c =
@@ -87,8 +83,7 @@ array_mode-returns-in_err-m-2 t c =
     let h = c.peek.ensures.there (far LEFT _ refl e) in
     let x = c.in_ok-expect.ensures in
     let k = inside _ _ RIGHT refl x in
-    let p = err_from_is_err_and c.from_residual-in_err-m-2.result c.from_residual-in_err-m-2.ensures.1 in
-    rw (p.1, p.2) (dims_refused c.args.from.depth c.args.from.symbols.now c.args.from.next c.args.from.used c.args.nodes.now (omega (arith, c.requires.there)) c.requires.refers c.requires.there c.requires.array h (sym c.peek.ensures.is ∙ e) c.in_ok-deeper.ensures.1 k x _ c.in_err-m-2.ensures)
+    passed _ _ c.from_residual-in_err-m-2.result c.from_residual-in_err-m-2.ensures.1 (dims_refused c.args.from.depth c.args.from.symbols.now c.args.from.next c.args.from.used c.args.nodes.now (omega (arith, c.requires.there)) c.requires.refers c.requires.there c.requires.array h (sym c.peek.ensures.is ∙ e) c.in_ok-deeper.ensures.1 k x _ c.in_err-m-2.ensures)
 
 pub array_mode-returns : goal.array_mode-returns
 array_mode-returns t c =

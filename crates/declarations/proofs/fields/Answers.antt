@@ -1,5 +1,5 @@
 use Rattle.std.proofs.Common.{refl, ◌∙◌, arith}
-use Rattle.std.proofs.lemmas.Result.{err_from_is_err_and}
+use Rattle.nodes.proofs.Results.{passed}
 use Rattle.grammar.specs.Symbols.{NAME}
 use Rattle.nodes.proofs.Build.{inside, rebased}
 use Rattle.nodes.proofs.Keep.{agree_set, agree_trans}
@@ -9,13 +9,11 @@ use Rattle.declarations.proofs.fields.Goals as goal
 
 pub returns-in_err-m : goal.returns-in_err-m
 returns-in_err-m c =
-    let p = err_from_is_err_and c.from_residual.result c.from_residual.ensures.1 in
-    rw (p.1, p.2) (first_mode_refused c.args.from.depth c.args.from.symbols.now c.args.from.next c.args.from.used _ c.in_err-m.ensures)
+    passed _ _ c.from_residual.result c.from_residual.ensures.1 (first_mode_refused c.args.from.depth c.args.from.symbols.now c.args.from.next c.args.from.used _ c.in_err-m.ensures)
 
 pub returns-in_err-expect : goal.returns-in_err-expect
 returns-in_err-expect c =
-    let p = err_from_is_err_and c.from_residual-in_err-expect.result c.from_residual-in_err-expect.ensures.1 in
-    rw (p.1, p.2, c.in_err-expect.ensures.0) (first_no_name c.args.from.depth c.args.from.symbols.now c.args.from.next c.args.from.used _ _ c.in_ok-m.m c.in_ok-m.ensures c.in_err-expect.ensures.1)
+    passed _ _ c.from_residual-in_err-expect.result c.from_residual-in_err-expect.ensures.1 (rw c.in_err-expect.ensures.0 (first_no_name c.args.from.depth c.args.from.symbols.now c.args.from.next c.args.from.used _ _ c.in_ok-m.m c.in_ok-m.ensures c.in_err-expect.ensures.1))
 
 pub loop-from-init : goal.loop-from-init
 loop-from-init c =

@@ -1,5 +1,5 @@
 use Rattle.std.proofs.Common.{refl, ◌∙◌, arith}
-use Rattle.std.proofs.lemmas.Result.{err_from_is_err_and}
+use Rattle.nodes.proofs.Results.{passed}
 use Rattle.grammar.specs.Symbols.{NAME}
 use Rattle.nodes.proofs.Build.{inside}
 use Rattle.declarations.proofs.Sharing.{made_plain, init_refused, made_given}
@@ -15,8 +15,9 @@ returns-then-ne g c =
 
 pub returns-in_err-v : goal.returns-in_err-v
 returns-in_err-v g c =
-    let p = err_from_is_err_and c.from_residual-in_err-v.result c.from_residual-in_err-v.ensures.1 in
-    rw (p.1, p.2) (init_refused g.V.Initial.setting c.args.from.depth c.args.from.symbols.now c.args.from.next c.args.from.used _ _ c.shared-n.result c.shared-n.ensures.0 c.shared-n.ensures.1 c.shared-n.ensures.2 _ c.in_err-v.ensures)
+    passed _ _ c.from_residual-in_err-v.result c.from_residual-in_err-v.ensures.1 (init_refused g.V.Initial.setting c.args.from.depth c.args.from.symbols.now c.args.from.next c.args.from.used _ _ c.shared-n.result c.shared-n.ensures.0 c.shared-n.ensures.1 c.shared-n.ensures.2 _ (rw c.after.ensures at c.in_err-v.ensures))
 
 pub returns : goal.returns
-returns g c = rw (c.put-2.ensures.written, c.put-2.ensures.is) (made_given g.V.Initial.setting c.args.from.depth c.args.from.symbols.now c.args.from.next c.args.from.used _ _ c.shared-n.result c.shared-n.ensures.0 c.shared-n.ensures.1 c.shared-n.ensures.2 _ c.in_ok-v.v (omega (arith, c.in_ok-v.ensures.few, c.in_ok-v.ensures.within, c.shared-n.ensures.2, c.shared-n.auto.nodes, c.value.auto.nodes, c.requires.room)) c.in_ok-v.ensures)
+returns g c =
+    let m = rw c.after.ensures at c.in_ok-v.ensures in
+    rw (c.put-2.ensures.written, c.put-2.ensures.is) (made_given g.V.Initial.setting c.args.from.depth c.args.from.symbols.now c.args.from.next c.args.from.used _ _ c.shared-n.result c.shared-n.ensures.0 c.shared-n.ensures.1 c.shared-n.ensures.2 _ c.in_ok-v.v (omega (arith, m.few, m.within, c.shared-n.ensures.2, c.shared-n.auto.nodes, c.value.auto.nodes, c.requires.room)) m)

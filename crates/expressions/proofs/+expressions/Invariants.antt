@@ -39,17 +39,17 @@ invariant-calls-loop-further l = Made 0 Exprs IsExprs of_exprs (ArgsWay l.from.d
 abbrev pub decreases-calls-loop-further : goal.decreases-calls-loop-further
 decreases-calls-loop-further l = length l.from.symbols.now - l.at.next
 
-abbrev pub invariant-level-loop-operand : goal.invariant-level-loop-operand
-invariant-level-loop-operand l = Made 0 (Expr (suc (l.n - 1))) IsExpr of_expr (LevelWay (l.n - 1) l.from.depth l.from.symbols.now l.from.next) l.from.symbols.now l.from.next l.from.used l.initial.nodes l.nodes l.at
+abbrev pub invariant-level-loop-from : goal.invariant-level-loop-from
+invariant-level-loop-from l = Made 0 (Expr (suc (l.n - 1))) IsExpr of_expr (LevelWay (l.n - 1) l.from.depth l.from.symbols.now l.from.next) l.from.symbols.now l.from.next l.from.used l.initial.nodes l.nodes l.at
 
-abbrev pub decreases-level-loop-operand : goal.decreases-level-loop-operand
-decreases-level-loop-operand l = length l.from.symbols.now - l.at.next
+abbrev pub decreases-level-loop-from : goal.decreases-level-loop-from
+decreases-level-loop-from l = length l.from.symbols.now - l.at.next
 
 abbrev pub invariant-term-loop-k : goal.invariant-term-loop-k
 invariant-term-loop-k l = (l.from.next ≤ l.k) × Made 0 Term IsTerm of_term (Way (a_term ∷ []) l.from.depth l.from.symbols.now l.k) l.from.symbols.now l.k l.from.used l.initial.nodes l.nodes l.at
 
-abbrev pub invariant-variable-loop-bracket : goal.invariant-variable-loop-bracket
-invariant-variable-loop-bracket l = Counted l.from.symbols.now l.from.next l.from.used l.at × ((b : Opening) → VariableMade b l.from.depth l.from.symbols.now l.from.next l.from.used l.initial.nodes l.initial.nodes l.initial.at → VariableMade b l.from.depth l.from.symbols.now l.from.next l.from.used l.initial.nodes l.nodes l.at)
+abbrev pub invariant-variable-loop-from : goal.invariant-variable-loop-from
+invariant-variable-loop-from l = Counted l.from.symbols.now l.from.next l.from.used l.at × ((b : Opening) → VariableMade b l.from.depth l.from.symbols.now l.from.next l.from.used l.initial.nodes l.initial.nodes l.initial.at → VariableMade b l.from.depth l.from.symbols.now l.from.next l.from.used l.initial.nodes l.nodes l.at)
 
-abbrev pub decreases-variable-loop-bracket : goal.decreases-variable-loop-bracket
-decreases-variable-loop-bracket l = length l.from.symbols.now - l.at.next
+abbrev pub decreases-variable-loop-from : goal.decreases-variable-loop-from
+decreases-variable-loop-from l = length l.from.symbols.now - l.at.next

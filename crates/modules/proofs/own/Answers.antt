@@ -1,12 +1,11 @@
 use Rattle.std.proofs.Common.{arith}
-use Rattle.std.proofs.lemmas.Result.{err_from_is_err_and}
+use Rattle.nodes.proofs.Results.{passed}
 use Rattle.modules.proofs.Moditems.{own_refused, made_own}
 use Rattle.modules.proofs.own.Goals as goal
 
 pub returns-in_err-b : goal.returns-in_err-b
 returns-in_err-b c =
-    let p = err_from_is_err_and c.from_residual.result c.from_residual.ensures.1 in
-    rw (p.1, p.2) (own_refused c.args.from.depth c.args.from.symbols.now c.args.from.next c.args.from.used c.requires.there c.requires.first _ c.in_err-b.ensures)
+    passed _ _ c.from_residual.result c.from_residual.ensures.1 (own_refused c.args.from.depth c.args.from.symbols.now c.args.from.next c.args.from.used c.requires.there c.requires.first _ c.in_err-b.ensures)
 
 pub returns : goal.returns
 returns c =

@@ -1,5 +1,5 @@
 use Rattle.std.proofs.Common.{◌<◌, [], ◌∷◌, Option, MatchResult, length, sym, refl, ◌∙◌, subst}
-use Rattle.std.proofs.lemmas.Result.{err_from_is_err_and}
+use Rattle.nodes.proofs.Results.{passed}
 use Rattle.grammar.specs.Symbols.{NAME, VAL}
 use Rattle.nodes.proofs.Build.{far}
 use Rattle.statements.proofs.Targets.{onward_refused, val_onward}
@@ -24,8 +24,7 @@ pub returns-in_err-f-in-Name : goal.returns-in_err-f-in-Name
 returns-in_err-f-in-Name c =
     let n = c.in-Name.ensures in
     let h : c.args.from.next < length c.args.from.symbols.now = n.there (far NAME _ refl refl) in
-    let p = err_from_is_err_and c.from_residual.result c.from_residual.ensures.1 in
-    rw (p.1, p.2) (source_refused c.args.from.depth c.args.from.symbols.now c.args.from.next c.args.from.used h (sym n.is) _ c.in_err-f-in-Name.ensures)
+    passed _ _ c.from_residual.result c.from_residual.ensures.1 (source_refused c.args.from.depth c.args.from.symbols.now c.args.from.next c.args.from.used h (sym n.is) _ c.in_err-f-in-Name.ensures)
 
 pub returns-then-not-destined : goal.returns-then-not-destined
 returns-then-not-destined c =

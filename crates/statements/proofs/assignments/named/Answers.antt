@@ -1,5 +1,5 @@
 use Rattle.std.proofs.Common.{sym, refl, ◌∙◌, arith}
-use Rattle.std.proofs.lemmas.Result.{err_from_is_err_and}
+use Rattle.nodes.proofs.Results.{passed}
 use Rattle.nodes.proofs.Build.{rebased}
 use Rattle.statements.proofs.Places.{form_is, named_refused, place_first}
 use Rattle.statements.proofs.Calls.{named_off, made_invoked}
@@ -8,8 +8,7 @@ use Rattle.statements.proofs.assignments.named.Goals as goal
 
 pub returns-in_err-f : goal.returns-in_err-f
 returns-in_err-f c =
-    let p = err_from_is_err_and c.from_residual.result c.from_residual.ensures.1 in
-    rw (p.1, p.2) (named_refused c.args.from.depth c.args.from.symbols.now c.args.from.next c.args.from.used c.requires.there c.requires.named _ c.in_err-f.ensures)
+    passed _ _ c.from_residual.result c.from_residual.ensures.1 (named_refused c.args.from.depth c.args.from.symbols.now c.args.from.next c.args.from.used c.requires.there c.requires.named _ c.in_err-f.ensures)
 
 pub assignment-requires : goal.assignment-requires
 assignment-requires c =
@@ -20,11 +19,10 @@ assignment-requires c =
 
 pub returns-in_err-call : goal.returns-in_err-call
 returns-in_err-call c =
-    let p = err_from_is_err_and c.from_residual-in_err-call.result c.from_residual-in_err-call.ensures.1 in
     let m = c.in_ok-f.ensures in
     let y = c.shape_of-shape.ensures m.tree (form_is c.args.from.depth c.args.from.symbols.now c.args.from.next m.tree _ m.met) m.is in
     let o = refused_or c.invocation.result _ _ (sym c.ok_or.ensures.value ∙ c.in_err-call.was) in
-    rw (p.1, p.2, o.1) (named_off c.args.from.depth c.args.from.symbols.now c.args.from.next c.args.from.used c.requires.there c.requires.named _ _ c.in_ok-f.f m c.shape_of-shape.result y c.if-destined.ensures (sym c.invocation.ensures ∙ o.0))
+    passed _ _ c.from_residual-in_err-call.result c.from_residual-in_err-call.ensures.1 (rw o.1 (named_off c.args.from.depth c.args.from.symbols.now c.args.from.next c.args.from.used c.requires.there c.requires.named _ _ c.in_ok-f.f m c.shape_of-shape.result y c.if-destined.ensures (sym c.invocation.ensures ∙ o.0)))
 
 pub returns : goal.returns
 returns c =

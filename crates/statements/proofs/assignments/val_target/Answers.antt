@@ -1,5 +1,5 @@
 use Rattle.std.proofs.Common.{refl, arith}
-use Rattle.std.proofs.lemmas.Result.{err_from_is_err_and}
+use Rattle.nodes.proofs.Results.{passed}
 use Rattle.grammar.specs.Symbols.{NAME, BECOMES}
 use Rattle.nodes.proofs.Build.{inside}
 use Rattle.statements.proofs.Targets.{val_refused, val_no_becomes, made_val}
@@ -8,14 +8,12 @@ use Rattle.statements.proofs.assignments.val_target.Goals as goal
 pub returns-in_err-v : goal.returns-in_err-v
 returns-in_err-v c =
     let q = c.in_ok-expect.ensures in
-    let p = err_from_is_err_and c.from_residual-in_err-v.result c.from_residual-in_err-v.ensures.1 in
-    rw (p.1, p.2) (val_refused c.args.from.depth c.args.from.symbols.now c.args.from.next c.args.from.used (inside _ _ NAME refl q) q _ c.in_err-v.ensures)
+    passed _ _ c.from_residual-in_err-v.result c.from_residual-in_err-v.ensures.1 (val_refused c.args.from.depth c.args.from.symbols.now c.args.from.next c.args.from.used (inside _ _ NAME refl q) q _ c.in_err-v.ensures)
 
 pub returns-in_err-expect-2 : goal.returns-in_err-expect-2
 returns-in_err-expect-2 c =
     let q = c.in_ok-expect.ensures in
-    let p = err_from_is_err_and c.from_residual-in_err-expect-2.result c.from_residual-in_err-expect-2.ensures.1 in
-    rw (p.1, p.2, c.in_err-expect-2.ensures.0) (val_no_becomes c.args.from.depth c.args.from.symbols.now c.args.from.next c.args.from.used (inside _ _ NAME refl q) q _ _ c.in_ok-v.v c.in_ok-v.ensures c.in_err-expect-2.ensures.1)
+    passed _ _ c.from_residual-in_err-expect-2.result c.from_residual-in_err-expect-2.ensures.1 (rw c.in_err-expect-2.ensures.0 (val_no_becomes c.args.from.depth c.args.from.symbols.now c.args.from.next c.args.from.used (inside _ _ NAME refl q) q _ _ c.in_ok-v.v c.in_ok-v.ensures c.in_err-expect-2.ensures.1))
 
 pub returns : goal.returns
 returns c =

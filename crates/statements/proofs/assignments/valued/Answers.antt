@@ -1,13 +1,12 @@
 use Rattle.std.proofs.Common.{refl, arith}
-use Rattle.std.proofs.lemmas.Result.{err_from_is_err_and}
+use Rattle.nodes.proofs.Results.{passed}
 use Rattle.nodes.proofs.Build.{rebased}
 use Rattle.statements.proofs.Targets.{valued_refused, val_first}
 use Rattle.statements.proofs.assignments.valued.Goals as goal
 
 pub returns-in_err-first : goal.returns-in_err-first
 returns-in_err-first c =
-    let p = err_from_is_err_and c.from_residual.result c.from_residual.ensures.1 in
-    rw (p.1, p.2) (valued_refused c.args.from.depth c.args.from.symbols.now c.args.from.next c.args.from.used c.requires.there c.requires.valued _ c.in_err-first.ensures)
+    passed _ _ c.from_residual.result c.from_residual.ensures.1 (valued_refused c.args.from.depth c.args.from.symbols.now c.args.from.next c.args.from.used c.requires.there c.requires.valued _ c.in_err-first.ensures)
 
 pub assignment-requires : goal.assignment-requires
 assignment-requires c =

@@ -1,5 +1,5 @@
 use Rattle.std.proofs.Common.{sym, refl, ◌∙◌, arith}
-use Rattle.std.proofs.lemmas.Result.{err_from_is_err_and}
+use Rattle.nodes.proofs.Results.{passed}
 use Rattle.grammar.specs.Symbols.{THEN, ELSEIF, END, ENDBLOCK, TO, WHILE, DO, REP, SEMI}
 use Rattle.grammar.specs.Machine.{all, ors, statements, an_expr, a_body}
 use Rattle.nodes.proofs.Build.{far, inside}
@@ -12,38 +12,35 @@ use Rattle.statements.proofs.bodies.+statements.Goals as goal
 pub arm-returns-in_err-q : goal.arm-returns-in_err-q
 arm-returns-in_err-q t c =
     let q = c.in_ok-expect.ensures in
-    let p = err_from_is_err_and c.from_residual-in_err-q.result c.from_residual-in_err-q.ensures.1 in
-    rw (p.1, p.2) (then_refused c.args.from.depth c.args.from.symbols.now c.args.from.next c.args.from.used _ _ c.in_ok-c.c c.in_ok-c.ensures (inside _ _ THEN refl q) q _ c.in_err-q.ensures)
+    passed _ _ c.from_residual-in_err-q.result c.from_residual-in_err-q.ensures.1 (then_refused c.args.from.depth c.args.from.symbols.now c.args.from.next c.args.from.used _ _ c.in_ok-c.c c.in_ok-c.ensures (inside _ _ THEN refl q) q c.in_err-q.field-0.0 (rw c.past.ensures.is at c.in_err-q.ensures))
 
 pub arm-returns : goal.arm-returns
 arm-returns t c =
     let q = c.in_ok-expect.ensures in
     let h = inside _ _ THEN refl q in
     let m = c.in_ok-c.ensures in
-    let n = c.in_ok-q.ensures in
+    let n = rw c.past.ensures.is at c.in_ok-q.ensures in
     rw (c.put.ensures.written, c.put.ensures.is) (made_arm c.args.from.depth c.args.from.symbols.now c.args.from.next c.args.from.used _ _ c.in_ok-c.c m h q _ c.in_ok-q.q (omega (arith, m.few, m.within, n.few, n.within, h, c.requires.room)) n)
 
 pub arms-returns-in_err-at : goal.arms-returns-in_err-at
 arms-returns-in_err-at t c =
-    let p = err_from_is_err_and c.from_residual.result c.from_residual.ensures.1 in
-    rw (p.1, p.2) (first_arm_refused c.args.from.depth c.args.from.symbols.now c.args.from.next c.args.from.used c.requires.there c.requires.opening c.requires.deep _ c.in_err-at.ensures)
+    passed _ _ c.from_residual.result c.from_residual.ensures.1 (first_arm_refused c.args.from.depth c.args.from.symbols.now c.args.from.next c.args.from.used c.requires.there c.requires.opening c.requires.deep _ c.in_err-at.ensures)
 
 pub arms-loop-inside-init : goal.arms-loop-inside-init
 arms-loop-inside-init t c = first_arm c.args.from.depth c.args.from.symbols.now c.args.from.next c.args.from.used c.requires.there c.requires.opening c.requires.deep _ _ c.in_ok-at.at c.in_ok-at.ensures
 
 pub arms-returns-in_err-a : goal.arms-returns-in_err-a
 arms-returns-in_err-a t c =
-    let p = err_from_is_err_and c.from_residual-in_err-a.result c.from_residual-in_err-a.ensures.1 in
     let e = (said _ _ _ c.loop-inside-test.ensures) in
     let v = c.loop-inside.invariant in
-    rw (p.1, p.2) (further_arm_refused c.args.from.depth c.args.from.symbols.now c.args.from.next c.args.from.used _ _ c.loop-inside.at v.0 v.1 (c.peek.ensures.there (far ELSEIF _ refl e)) (sym c.peek.ensures.is ∙ e) _ c.in_err-a.ensures)
+    passed _ _ c.from_residual-in_err-a.result c.from_residual-in_err-a.ensures.1 (further_arm_refused c.args.from.depth c.args.from.symbols.now c.args.from.next c.args.from.used _ _ c.loop-inside.at v.0 v.1 (c.peek.ensures.there (far ELSEIF _ refl e)) (sym c.peek.ensures.is ∙ e) c.in_err-a.field-0.0 (rw c.past.ensures.is at c.in_err-a.ensures))
 
 pub arms-loop-inside-preserved : goal.arms-loop-inside-preserved
 arms-loop-inside-preserved t c =
     let e = (said _ _ _ c.loop-inside-test.ensures) in
     let v = c.loop-inside.invariant in
     let h = c.peek.ensures.there (far ELSEIF _ refl e) in
-    let m = c.in_ok-a.ensures in
+    let m = rw c.past.ensures.is at c.in_ok-a.ensures in
     rw (c.put-at.ensures.written, c.put-at.ensures.is) (further_arm c.args.from.depth c.args.from.symbols.now c.args.from.next c.args.from.used _ _ c.loop-inside.at v.0 v.1 h (sym c.peek.ensures.is ∙ e) _ c.in_ok-a.a (omega (arith, m.few, m.within, v.1, h, c.requires.room)) m)
 
 pub arms-returns : goal.arms-returns
@@ -54,25 +51,27 @@ arms-returns t c =
 
 pub block-returns-in_err-b : goal.block-returns-in_err-b
 block-returns-in_err-b t c =
-    let p = err_from_is_err_and c.from_residual-in_err-b.result c.from_residual-in_err-b.ensures.1 in
-    rw (p.1, p.2) (block_refused c.args.from.depth c.args.from.symbols.now c.args.from.next c.args.from.used c.requires.there c.requires.opening c.in_ok-depth.depth c.in_ok-depth.ensures _ c.in_err-b.ensures)
+    let z = c.in_ok-inside.ensures in
+    passed _ _ c.from_residual-in_err-b.result c.from_residual-in_err-b.ensures.1 (block_refused c.args.from.depth c.args.from.symbols.now c.args.from.next c.args.from.used c.requires.there c.requires.opening _ (refl, z.1) _ (rw z.0 at c.in_err-b.ensures))
 
 pub block-returns-in_err-expect : goal.block-returns-in_err-expect
 block-returns-in_err-expect t c =
-    let p = err_from_is_err_and c.from_residual-in_err-expect.result c.from_residual-in_err-expect.ensures.1 in
-    rw (p.1, p.2, c.in_err-expect.ensures.0) (block_unclosed c.args.from.depth c.args.from.symbols.now c.args.from.next c.args.from.used c.requires.there c.requires.opening c.in_ok-depth.depth c.in_ok-depth.ensures _ _ c.in_ok-b.b c.in_ok-b.ensures c.in_err-expect.ensures.1)
+    let z = c.in_ok-inside.ensures in
+    let e = c.in_err-expect.ensures in
+    passed _ _ c.from_residual-in_err-expect.result c.from_residual-in_err-expect.ensures.1 (rw e.0 (block_unclosed c.args.from.depth c.args.from.symbols.now c.args.from.next c.args.from.used c.requires.there c.requires.opening _ (refl, z.1) _ _ c.in_ok-b.b (rw z.0 at c.in_ok-b.ensures) e.1))
 
 pub block-returns : goal.block-returns
 block-returns t c =
+    let z = c.in_ok-inside.ensures in
     let q = c.in_ok-expect.ensures in
     let h = inside _ _ ENDBLOCK refl q in
-    let m = c.in_ok-b.ensures in
-    rw (c.put.ensures.written, c.put.ensures.is) (made_block c.args.from.depth c.args.from.symbols.now c.args.from.next c.args.from.used c.requires.there c.requires.opening c.in_ok-depth.depth c.in_ok-depth.ensures _ _ c.in_ok-b.b m h q (omega (arith, m.few, h, c.requires.room)))
+    let m = rw z.0 at c.in_ok-b.ensures in
+    rw (c.put.ensures.written, c.put.ensures.is) (made_block c.args.from.depth c.args.from.symbols.now c.args.from.next c.args.from.used c.requires.there c.requires.opening _ (refl, z.1) _ _ c.in_ok-b.b m h q (omega (arith, m.few, h, c.requires.room)))
 
 pub body-returns : goal.body-returns
 body-returns t c =
     let m = c.in_ok-l.ensures in
-    let n = c.in_ok-q.ensures in
+    let n = rw c.after.ensures at c.in_ok-q.ensures in
     rw (c.put.ensures.written, c.put.ensures.is) (made_body c.args.from.depth c.args.from.symbols.now c.args.from.next c.args.from.used _ _ c.in_ok-l.l m 1 _ c.in_ok-q.q (omega (arith, m.few, n.few, n.within, c.requires.room)) n)
 
 pub branch-returns-in-End : goal.branch-returns-in-End
@@ -84,13 +83,11 @@ branch-returns-in-End t c =
 
 pub otherwise-returns-in_err-q : goal.otherwise-returns-in_err-q
 otherwise-returns-in_err-q t c =
-    let p = err_from_is_err_and c.from_residual.result c.from_residual.ensures.1 in
-    rw (p.1, p.2) (else_refused c.args.from.depth c.args.from.symbols.now c.args.from.next c.args.from.used _ _ c.args.at c.requires.begun c.requires.few c.requires.there c.requires.deep c.requires.behind _ c.in_err-q.ensures)
+    passed _ _ c.from_residual.result c.from_residual.ensures.1 (else_refused c.args.from.depth c.args.from.symbols.now c.args.from.next c.args.from.used _ _ c.args.at c.requires.begun c.requires.few c.requires.there c.requires.deep c.requires.behind _ c.in_err-q.ensures)
 
 pub otherwise-returns-in_err-expect : goal.otherwise-returns-in_err-expect
 otherwise-returns-in_err-expect t c =
-    let p = err_from_is_err_and c.from_residual-in_err-expect.result c.from_residual-in_err-expect.ensures.1 in
-    rw (p.1, p.2, c.in_err-expect.ensures.0) (else_unclosed c.args.from.depth c.args.from.symbols.now c.args.from.next c.args.from.used _ _ c.args.at c.requires.begun c.requires.few c.requires.there c.requires.deep c.requires.behind _ c.in_ok-q.q c.in_ok-q.ensures c.in_err-expect.ensures.1)
+    passed _ _ c.from_residual-in_err-expect.result c.from_residual-in_err-expect.ensures.1 (rw c.in_err-expect.ensures.0 (else_unclosed c.args.from.depth c.args.from.symbols.now c.args.from.next c.args.from.used _ _ c.args.at c.requires.begun c.requires.few c.requires.there c.requires.deep c.requires.behind _ c.in_ok-q.q c.in_ok-q.ensures c.in_err-expect.ensures.1))
 
 pub otherwise-returns : goal.otherwise-returns
 otherwise-returns t c =
@@ -101,104 +98,100 @@ otherwise-returns t c =
 
 pub repeat-returns-in_err-e : goal.repeat-returns-in_err-e
 repeat-returns-in_err-e t c =
-    let p = err_from_is_err_and c.from_residual.result c.from_residual.ensures.1 in
-    rw (p.1, p.2) (head_refused TO an_expr a_body to_opens to_same c.args.from.depth c.args.from.symbols.now c.args.from.next c.requires.there c.requires.opening _ c.in_err-e.ensures)
+    passed _ _ c.from_residual.result c.from_residual.ensures.1 (head_refused TO an_expr a_body to_opens to_same c.args.from.depth c.args.from.symbols.now c.args.from.next c.requires.there c.requires.opening _ c.in_err-e.ensures)
 
 pub repeat-returns-in_err-expect : goal.repeat-returns-in_err-expect
 repeat-returns-in_err-expect t c =
-    let p = err_from_is_err_and c.from_residual-in_err-expect.result c.from_residual-in_err-expect.ensures.1 in
-    rw (p.1, p.2, c.in_err-expect.ensures.0) (no_do TO an_expr a_body to_opens to_same c.args.from.depth c.args.from.symbols.now c.args.from.next c.requires.there c.requires.opening c.in_ok-e.e.next c.in_ok-e.ensures.met c.in_err-expect.ensures.1)
+    passed _ _ c.from_residual-in_err-expect.result c.from_residual-in_err-expect.ensures.1 (rw c.in_err-expect.ensures.0 (no_do TO an_expr a_body to_opens to_same c.args.from.depth c.args.from.symbols.now c.args.from.next c.requires.there c.requires.opening c.in_ok-e.e.next c.in_ok-e.ensures.met c.in_err-expect.ensures.1))
 
-pub repeat-returns-in_err-depth : goal.repeat-returns-in_err-depth
-repeat-returns-in_err-depth t c =
+pub repeat-returns-in_err-inside : goal.repeat-returns-in_err-inside
+repeat-returns-in_err-inside t c =
     let q = c.in_ok-expect.ensures in
-    let p = err_from_is_err_and c.from_residual-in_err-depth.result c.from_residual-in_err-depth.ensures.1 in
-    rw (p.1, p.2, c.in_err-depth.ensures.0) (do_deep TO an_expr a_body to_opens to_same c.args.from.depth c.args.from.symbols.now c.args.from.next c.requires.there c.requires.opening c.in_ok-e.e.next c.in_ok-e.ensures.met (inside _ _ DO refl q) q c.in_err-depth.ensures.1)
+    let z = c.in_err-inside.ensures in
+    passed _ _ c.from_residual-in_err-inside.result c.from_residual-in_err-inside.ensures.1 (rw z.0 (do_deep TO an_expr a_body to_opens to_same c.args.from.depth c.args.from.symbols.now c.args.from.next c.requires.there c.requires.opening c.in_ok-e.e.next c.in_ok-e.ensures.met (inside _ _ DO refl q) q (rw c.after.ensures at z.1)))
 
 pub repeat-returns-in_err-b : goal.repeat-returns-in_err-b
 repeat-returns-in_err-b t c =
     let q = c.in_ok-expect.ensures in
-    let p = err_from_is_err_and c.from_residual-in_err-b.result c.from_residual-in_err-b.ensures.1 in
-    rw (p.1, p.2) (do_refused TO an_expr a_body to_opens to_same c.args.from.depth c.args.from.symbols.now c.args.from.next c.requires.there c.requires.opening c.in_ok-e.e.next c.in_ok-e.ensures.met (inside _ _ DO refl q) q c.in_ok-depth.depth c.in_ok-depth.ensures _ c.in_err-b.ensures)
+    let z = rw c.after.ensures at c.in_ok-inside.ensures in
+    passed _ _ c.from_residual-in_err-b.result c.from_residual-in_err-b.ensures.1 (do_refused TO an_expr a_body to_opens to_same c.args.from.depth c.args.from.symbols.now c.args.from.next c.requires.there c.requires.opening c.in_ok-e.e.next c.in_ok-e.ensures.met (inside _ _ DO refl q) q _ (refl, z.1) c.in_err-b.field-0.0 (rw z.0 at c.in_err-b.ensures))
 
 pub repeat-returns-in_err-expect-2 : goal.repeat-returns-in_err-expect-2
 repeat-returns-in_err-expect-2 t c =
     let q = c.in_ok-expect.ensures in
-    let p = err_from_is_err_and c.from_residual-in_err-expect-2.result c.from_residual-in_err-expect-2.ensures.1 in
-    rw (p.1, p.2, c.in_err-expect-2.ensures.0) (no_rep TO an_expr a_body to_opens to_same c.args.from.depth c.args.from.symbols.now c.args.from.next c.requires.there c.requires.opening c.in_ok-e.e.next c.in_ok-e.ensures.met (inside _ _ DO refl q) q c.in_ok-depth.depth c.in_ok-depth.ensures c.in_ok-b.b.next c.in_ok-b.ensures.met c.in_err-expect-2.ensures.1)
+    let z = rw c.after.ensures at c.in_ok-inside.ensures in
+    passed _ _ c.from_residual-in_err-expect-2.result c.from_residual-in_err-expect-2.ensures.1 (rw c.in_err-expect-2.ensures.0 (no_rep TO an_expr a_body to_opens to_same c.args.from.depth c.args.from.symbols.now c.args.from.next c.requires.there c.requires.opening c.in_ok-e.e.next c.in_ok-e.ensures.met (inside _ _ DO refl q) q _ (refl, z.1) c.in_ok-b.b.next (rw z.0 at c.in_ok-b.ensures).met c.in_err-expect-2.ensures.1))
 
 pub repeat-returns : goal.repeat-returns
 repeat-returns t c =
     let q = c.in_ok-expect.ensures in
+    let z = rw c.after.ensures at c.in_ok-inside.ensures in
     let h = inside _ _ DO refl q in
     let x = c.in_ok-expect-2.ensures in
     let i = inside _ _ REP refl x in
     let m = c.in_ok-e.ensures in
-    let n = c.in_ok-b.ensures in
-    rw (c.put.ensures.written, c.put.ensures.is) (made_repeat c.args.from.depth c.args.from.symbols.now c.args.from.next c.args.from.used c.requires.there c.in_ok-depth.depth c.in_ok-depth.ensures _ _ _ c.in_ok-e.e c.in_ok-b.b h q i x (omega (arith, m.few, n.few, h, i, c.requires.room)) c.requires.opening m n)
+    let n = rw z.0 at c.in_ok-b.ensures in
+    rw (c.put.ensures.written, c.put.ensures.is) (made_repeat c.args.from.depth c.args.from.symbols.now c.args.from.next c.args.from.used c.requires.there _ (refl, z.1) _ _ _ c.in_ok-e.e c.in_ok-b.b h q i x (omega (arith, m.few, n.few, h, i, c.requires.room)) c.requires.opening m n)
 
 pub while_loop-returns-in_err-c : goal.while_loop-returns-in_err-c
 while_loop-returns-in_err-c t c =
-    let p = err_from_is_err_and c.from_residual.result c.from_residual.ensures.1 in
-    rw (p.1, p.2) (head_refused WHILE (all ors) (all statements) while_opens while_same c.args.from.depth c.args.from.symbols.now c.args.from.next c.requires.there c.requires.opening _ c.in_err-c.ensures)
+    passed _ _ c.from_residual.result c.from_residual.ensures.1 (head_refused WHILE (all ors) (all statements) while_opens while_same c.args.from.depth c.args.from.symbols.now c.args.from.next c.requires.there c.requires.opening _ c.in_err-c.ensures)
 
 pub while_loop-returns-in_err-expect : goal.while_loop-returns-in_err-expect
 while_loop-returns-in_err-expect t c =
-    let p = err_from_is_err_and c.from_residual-in_err-expect.result c.from_residual-in_err-expect.ensures.1 in
-    rw (p.1, p.2, c.in_err-expect.ensures.0) (no_do WHILE (all ors) (all statements) while_opens while_same c.args.from.depth c.args.from.symbols.now c.args.from.next c.requires.there c.requires.opening c.in_ok-c.c.next c.in_ok-c.ensures.met c.in_err-expect.ensures.1)
+    passed _ _ c.from_residual-in_err-expect.result c.from_residual-in_err-expect.ensures.1 (rw c.in_err-expect.ensures.0 (no_do WHILE (all ors) (all statements) while_opens while_same c.args.from.depth c.args.from.symbols.now c.args.from.next c.requires.there c.requires.opening c.in_ok-c.c.next c.in_ok-c.ensures.met c.in_err-expect.ensures.1))
 
-pub while_loop-returns-in_err-depth : goal.while_loop-returns-in_err-depth
-while_loop-returns-in_err-depth t c =
+pub while_loop-returns-in_err-inside : goal.while_loop-returns-in_err-inside
+while_loop-returns-in_err-inside t c =
     let q = c.in_ok-expect.ensures in
-    let p = err_from_is_err_and c.from_residual-in_err-depth.result c.from_residual-in_err-depth.ensures.1 in
-    rw (p.1, p.2, c.in_err-depth.ensures.0) (do_deep WHILE (all ors) (all statements) while_opens while_same c.args.from.depth c.args.from.symbols.now c.args.from.next c.requires.there c.requires.opening c.in_ok-c.c.next c.in_ok-c.ensures.met (inside _ _ DO refl q) q c.in_err-depth.ensures.1)
+    let z = c.in_err-inside.ensures in
+    passed _ _ c.from_residual-in_err-inside.result c.from_residual-in_err-inside.ensures.1 (rw z.0 (do_deep WHILE (all ors) (all statements) while_opens while_same c.args.from.depth c.args.from.symbols.now c.args.from.next c.requires.there c.requires.opening c.in_ok-c.c.next c.in_ok-c.ensures.met (inside _ _ DO refl q) q (rw c.after.ensures at z.1)))
 
 pub while_loop-returns-in_err-q : goal.while_loop-returns-in_err-q
 while_loop-returns-in_err-q t c =
     let q = c.in_ok-expect.ensures in
-    let p = err_from_is_err_and c.from_residual-in_err-q.result c.from_residual-in_err-q.ensures.1 in
-    rw (p.1, p.2) (do_refused WHILE (all ors) (all statements) while_opens while_same c.args.from.depth c.args.from.symbols.now c.args.from.next c.requires.there c.requires.opening c.in_ok-c.c.next c.in_ok-c.ensures.met (inside _ _ DO refl q) q c.in_ok-depth.depth c.in_ok-depth.ensures _ c.in_err-q.ensures)
+    let z = rw c.after.ensures at c.in_ok-inside.ensures in
+    passed _ _ c.from_residual-in_err-q.result c.from_residual-in_err-q.ensures.1 (do_refused WHILE (all ors) (all statements) while_opens while_same c.args.from.depth c.args.from.symbols.now c.args.from.next c.requires.there c.requires.opening c.in_ok-c.c.next c.in_ok-c.ensures.met (inside _ _ DO refl q) q _ (refl, z.1) c.in_err-q.field-0.0 (rw z.0 at c.in_err-q.ensures))
 
 pub while_loop-returns-in_err-expect-2 : goal.while_loop-returns-in_err-expect-2
 while_loop-returns-in_err-expect-2 t c =
     let q = c.in_ok-expect.ensures in
-    let p = err_from_is_err_and c.from_residual-in_err-expect-2.result c.from_residual-in_err-expect-2.ensures.1 in
-    rw (p.1, p.2, c.in_err-expect-2.ensures.0) (no_rep WHILE (all ors) (all statements) while_opens while_same c.args.from.depth c.args.from.symbols.now c.args.from.next c.requires.there c.requires.opening c.in_ok-c.c.next c.in_ok-c.ensures.met (inside _ _ DO refl q) q c.in_ok-depth.depth c.in_ok-depth.ensures c.in_ok-q.q.next c.in_ok-q.ensures.met c.in_err-expect-2.ensures.1)
+    let z = rw c.after.ensures at c.in_ok-inside.ensures in
+    passed _ _ c.from_residual-in_err-expect-2.result c.from_residual-in_err-expect-2.ensures.1 (rw c.in_err-expect-2.ensures.0 (no_rep WHILE (all ors) (all statements) while_opens while_same c.args.from.depth c.args.from.symbols.now c.args.from.next c.requires.there c.requires.opening c.in_ok-c.c.next c.in_ok-c.ensures.met (inside _ _ DO refl q) q _ (refl, z.1) c.in_ok-q.q.next (rw z.0 at c.in_ok-q.ensures).met c.in_err-expect-2.ensures.1))
 
 pub while_loop-returns : goal.while_loop-returns
 while_loop-returns t c =
     let q = c.in_ok-expect.ensures in
+    let z = rw c.after.ensures at c.in_ok-inside.ensures in
     let h = inside _ _ DO refl q in
     let x = c.in_ok-expect-2.ensures in
     let i = inside _ _ REP refl x in
     let m = c.in_ok-c.ensures in
-    let n = c.in_ok-q.ensures in
-    rw (c.put.ensures.written, c.put.ensures.is) (made_loop c.args.from.depth c.args.from.symbols.now c.args.from.next c.args.from.used c.requires.there c.in_ok-depth.depth c.in_ok-depth.ensures _ _ _ c.in_ok-c.c c.in_ok-q.q h q i x (omega (arith, m.few, n.few, h, i, c.requires.room)) c.requires.opening m n)
+    let n = rw z.0 at c.in_ok-q.ensures in
+    rw (c.put.ensures.written, c.put.ensures.is) (made_loop c.args.from.depth c.args.from.symbols.now c.args.from.next c.args.from.used c.requires.there _ (refl, z.1) _ _ _ c.in_ok-c.c c.in_ok-q.q h q i x (omega (arith, m.few, n.few, h, i, c.requires.room)) c.requires.opening m n)
 
 pub sequence-returns-in_err-at : goal.sequence-returns-in_err-at
 sequence-returns-in_err-at t c =
-    let p = err_from_is_err_and c.from_residual.result c.from_residual.ensures.1 in
-    rw (p.1, p.2) (first_refused 1 (omega arith) statements (all statements) statements_begin c.args.from.depth c.args.from.symbols.now c.args.from.next c.args.from.used _ c.in_err-at.ensures)
+    passed _ _ c.from_residual.result c.from_residual.ensures.1 (first_refused 1 (omega arith) statements (all statements) statements_begin c.args.from.depth c.args.from.symbols.now c.args.from.next c.args.from.used _ c.in_err-at.ensures)
 
-pub sequence-loop-behind-init : goal.sequence-loop-behind-init
-sequence-loop-behind-init t c = starts 1 (omega arith) statements (all statements) statements_begin c.args.from.depth c.args.from.symbols.now c.args.from.next c.args.from.used _ _ c.in_ok-at.at c.in_ok-at.ensures
+pub sequence-loop-from-init : goal.sequence-loop-from-init
+sequence-loop-from-init t c = starts 1 (omega arith) statements (all statements) statements_begin c.args.from.depth c.args.from.symbols.now c.args.from.next c.args.from.used _ _ c.in_ok-at.at c.in_ok-at.ensures
 
 pub sequence-returns-in_err-e : goal.sequence-returns-in_err-e
 sequence-returns-in_err-e t c =
-    let p = err_from_is_err_and c.from_residual-in_err-e.result c.from_residual-in_err-e.ensures.1 in
-    let e = (said _ _ _ c.loop-behind-test.ensures) in
-    rw (p.1, p.2) (refused 1 (omega arith) statements (all statements) statements_begin c.args.from.depth c.args.from.symbols.now c.args.from.next c.args.from.used _ _ c.loop-behind.at c.loop-behind.invariant (c.peek.ensures.there (far SEMI _ refl e)) (sym c.peek.ensures.is ∙ e) _ c.in_err-e.ensures)
+    let e = (said _ _ _ c.loop-from-test.ensures) in
+    passed _ _ c.from_residual-in_err-e.result c.from_residual-in_err-e.ensures.1 (refused 1 (omega arith) statements (all statements) statements_begin c.args.from.depth c.args.from.symbols.now c.args.from.next c.args.from.used _ _ c.loop-from.at c.loop-from.invariant (c.peek.ensures.there (far SEMI _ refl e)) (sym c.peek.ensures.is ∙ e) c.in_err-e.field-0.0 (rw c.past.ensures.is at c.in_err-e.ensures))
 
-pub sequence-loop-behind-preserved : goal.sequence-loop-behind-preserved
-sequence-loop-behind-preserved t c =
-    let e = (said _ _ _ c.loop-behind-test.ensures) in
+pub sequence-loop-from-preserved : goal.sequence-loop-from-preserved
+sequence-loop-from-preserved t c =
+    let e = (said _ _ _ c.loop-from-test.ensures) in
     let h = c.peek.ensures.there (far SEMI _ refl e) in
-    let m = c.in_ok-e.ensures in
-    let v = c.loop-behind.invariant in
-    rw (c.put-at.ensures.written, c.put-at.ensures.is) (goes 1 (omega arith) statements (all statements) statements_begin c.args.from.depth c.args.from.symbols.now c.args.from.next c.args.from.used _ _ c.loop-behind.at v h (sym c.peek.ensures.is ∙ e) _ c.in_ok-e.e (omega (arith, m.few, m.within, v.few, h, c.requires.room)) m)
+    let m = rw c.past.ensures.is at c.in_ok-e.ensures in
+    let v = c.loop-from.invariant in
+    rw (c.put-at.ensures.written, c.put-at.ensures.is) (goes 1 (omega arith) statements (all statements) statements_begin c.args.from.depth c.args.from.symbols.now c.args.from.next c.args.from.used _ _ c.loop-from.at v h (sym c.peek.ensures.is ∙ e) _ c.in_ok-e.e (omega (arith, m.few, m.within, v.few, h, c.requires.room)) m)
 
 pub sequence-returns : goal.sequence-returns
-sequence-returns t c = ends 1 (omega arith) statements (all statements) statements_begin c.args.from.depth c.args.from.symbols.now c.args.from.next c.args.from.used _ _ c.loop-behind.at c.loop-behind.invariant _ c.in_ok-at.ensures.kept (λ e. (said _ _ _ c.loop-behind-test.ensures) (c.peek.ensures.is ∙ e))
+sequence-returns t c = ends 1 (omega arith) statements (all statements) statements_begin c.args.from.depth c.args.from.symbols.now c.args.from.next c.args.from.used _ _ c.loop-from.at c.loop-from.invariant _ c.in_ok-at.ensures.kept (λ e. (said _ _ _ c.loop-from-test.ensures) (c.peek.ensures.is ∙ e))
 
 pub statement-returns-in_default : goal.statement-returns-in_default
 statement-returns-in_default t c =

@@ -41,8 +41,8 @@ invariant-arms-loop-inside l = ArmsMade l.from.depth l.from.symbols.now l.from.n
 abbrev pub decreases-arms-loop-inside : goal.decreases-arms-loop-inside
 decreases-arms-loop-inside l = length l.from.symbols.now - l.at.next
 
-abbrev pub invariant-sequence-loop-behind : goal.invariant-sequence-loop-behind
-invariant-sequence-loop-behind l = SomeMade 1 statements (all statements) l.from.depth l.from.symbols.now l.from.next l.from.used l.initial.nodes l.nodes l.at
+abbrev pub invariant-sequence-loop-from : goal.invariant-sequence-loop-from
+invariant-sequence-loop-from l = SomeMade 1 statements (all statements) l.from.depth l.from.symbols.now l.from.next l.from.used l.initial.nodes l.nodes l.at
 
-abbrev pub decreases-sequence-loop-behind : goal.decreases-sequence-loop-behind
-decreases-sequence-loop-behind l = length l.from.symbols.now - l.at.next
+abbrev pub decreases-sequence-loop-from : goal.decreases-sequence-loop-from
+decreases-sequence-loop-from l = length l.from.symbols.now - l.at.next

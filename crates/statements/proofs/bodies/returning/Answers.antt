@@ -1,5 +1,5 @@
 use Rattle.std.proofs.Common.{sym, refl, ◌∙◌, arith}
-use Rattle.std.proofs.lemmas.Result.{err_from_is_err_and}
+use Rattle.nodes.proofs.Results.{passed}
 use Rattle.grammar.specs.Symbols.{LEFT}
 use Rattle.nodes.proofs.Build.{far}
 use Rattle.statements.proofs.Blocks.{made_return, return_refused, made_return_with}
@@ -15,8 +15,7 @@ pub returns-in_err-e : goal.returns-in_err-e
 returns-in_err-e c =
     let u = c.if-ne.ensures in
     let e = agrees _ _ u in
-    let p = err_from_is_err_and c.from_residual.result c.from_residual.ensures.1 in
-    rw (p.1, p.2) (return_refused c.args.from.depth c.args.from.symbols.now c.args.from.next c.args.from.used c.args.nodes.now c.requires.there c.requires.opening (c.peek.ensures.there (far LEFT _ refl e)) (sym c.peek.ensures.is ∙ e) _ c.in_err-e.ensures)
+    passed _ _ c.from_residual.result c.from_residual.ensures.1 (return_refused c.args.from.depth c.args.from.symbols.now c.args.from.next c.args.from.used c.args.nodes.now c.requires.there c.requires.opening (c.peek.ensures.there (far LEFT _ refl e)) (sym c.peek.ensures.is ∙ e) _ c.in_err-e.ensures)
 
 pub returns : goal.returns
 returns c =
