@@ -6,6 +6,7 @@ pub mod lists;
 ghost use Rattle.nodes.specs.declared.Fault.TheVariants.{Syntax, Deep};
 ghost use Rattle.std.specs.Prelude.{MatchResult, ◌-◌, ◌+◌, ◌≡◌, ◌<◌, ◌≤◌, length, ◌≢◌, slice_index_or, slice_set};
 ghost use Rattle.grammar.specs.Symbols.{STOP};
+ghost use Rattle.nodes.specs.Nodes.{blank_node};
 
 use grammar::Symbol;
 
@@ -114,6 +115,13 @@ pub struct Spot<'s> {
     pub next: usize,
     pub depth: usize,
     pub used: usize,
+}
+
+/// The node with the index k; behind the last, one that says nothing.
+pub fn node_at(nodes: &[Node], k: usize) -> Node
+    ensures { result ≡ slice_index_or nodes.now k blank_node }
+{
+    nodes.get(k).copied().unwrap_or(Node::Integer(0))
 }
 
 /// Writes a node behind the used ones. It stands for what ends before the item `next`.

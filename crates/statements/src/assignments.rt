@@ -9,7 +9,7 @@ ghost use Rattle.statements.specs.Assigning.{Form, Shows, IsPlace, invocation as
 
 use expressions::{expr, form, variable};
 use grammar::Symbol;
-use nodes::{Fault, Node, Parsed, Spot, put};
+use nodes::{Fault, Node, Parsed, Spot, node_at, put};
 
 /// What a form is that begins with a name: a call, by its name, bracket and expressions; a name with one index, which may be a call
 /// with one expression or a destination; or any other variable, which can only be a destination.
@@ -19,13 +19,6 @@ enum Shape {
     Indexed(usize, usize, usize),
     Called(usize, usize),
     CalledOn(usize, usize, usize),
-}
-
-/// The node with the index k; behind the last, one that says nothing.
-fn node_at(nodes: &[Node], k: usize) -> Node
-    ensures { result ≡ slice_index_or nodes.now k blank_node }
-{
-    nodes.get(k).copied().unwrap_or(Node::Integer(0))
 }
 
 /// What the form is whose node has the index k.

@@ -1,0 +1,4 @@
+pub mod Listed
+pub mod Alone
+pub mod Standing
+pub mod Loops

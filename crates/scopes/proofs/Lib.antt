@@ -1,0 +1,2 @@
+mod Seeking
+pub mod Parts
