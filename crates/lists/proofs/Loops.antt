@@ -7,7 +7,7 @@ use Rattle.lists.specs.Lists.{Stand, of_many, of_sequence, of_arms, comparisons,
 
 -- where op is associative, and e neutral
 module _ {B : Type 0} (op : B → B → B) (e : B) (assoc : (a b c : B) → op (op a b) c ≡ op a (op b c)) (before : (b : B) → op e b ≡ b) (behind : (b : B) → op b e ≡ b) where
-  worked_out : {A : Type 0} (f : A → B) (b : B) (ts : List A) → from_last (λ t c. op (f t) c) b ts ≡ op (in_order op e f ts) b
+  pub worked_out : {A : Type 0} (f : A → B) (b : B) (ts : List A) → from_last (λ t c. op (f t) c) b ts ≡ op (in_order op e f ts) b
   worked_out f b [] = sym (before b)
   worked_out f b (t ∷ ts) = worked_out f (op (f t) b) ts ∙ sym (assoc (in_order op e f ts) (f t) b)
 

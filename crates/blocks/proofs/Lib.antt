@@ -1,0 +1,4 @@
+pub mod Aiming
+pub mod Comparing
+pub mod Joined
+pub mod Naming
