@@ -2,7 +2,7 @@
 use Rattle.std.specs.Prelude.{ℕ}
 use Rattle.answers.specs.declared.Place.{Place}
 use Rattle.answers.specs.declared.Decline.{Decline}
-use Rattle.answers.specs.declared.Decline.TheVariants.{TextTooLong, BadByte, UnfinishedItem, IntegerTooLarge, TooManyItems, Unexpected, TooDeep}
+use Rattle.answers.specs.declared.Decline.TheVariants.{TextTooLong, BadByte, UnfinishedItem, IntegerTooLarge, TooManyItems, Unexpected, TooDeep, DeclaredTwice, WrongName, Misfit, NoValue, TooManyPlaces, TooManyLocals}
 
 -- the place before which n bytes of the text stand
 abbrev pub place : ℕ → Place
@@ -23,6 +23,18 @@ number_of (TooManyItems p) = 6
 number_of (Unexpected p) = 7
 -- an item opens a depth of 33
 number_of (TooDeep p) = 8
+-- a name is declared that the same scope already has
+number_of (DeclaredTwice p) = 9
+-- a name is unknown, used too early or of the wrong class, or another EXT is described
+number_of (WrongName p) = 10
+-- a construct whose parts fit does not itself fit
+number_of (Misfit p) = 11
+-- a variable that has a REF place has no initial value
+number_of (NoValue p) = 12
+-- more than 4,096 places of data and strings
+number_of (TooManyPlaces p) = 13
+-- a procedure has more than 8 parameters, or more than 64 locals with them
+number_of (TooManyLocals p) = 14
 
 abbrev pub place_of : Decline → Place
 -- the first byte too many
@@ -39,3 +51,15 @@ place_of (TooManyItems p) = p
 place_of (Unexpected p) = p
 -- the item's first byte
 place_of (TooDeep p) = p
+-- the first byte of the second declaration's name
+place_of (DeclaredTwice p) = p
+-- the name's first byte
+place_of (WrongName p) = p
+-- the first byte of the construct's first item
+place_of (Misfit p) = p
+-- the first byte of the variable's name
+place_of (NoValue p) = p
+-- the first byte of the name or string that passes
+place_of (TooManyPlaces p) = p
+-- the first byte of the first name beyond
+place_of (TooManyLocals p) = p

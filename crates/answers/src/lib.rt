@@ -34,6 +34,18 @@ pub enum Decline {
     Unexpected(Place),
     /// An item opens a depth of 33.
     TooDeep(Place),
+    /// A name is declared that the same scope already has.
+    DeclaredTwice(Place),
+    /// A name is unknown, used too early or of the wrong class, or another EXT is described.
+    WrongName(Place),
+    /// A construct whose parts fit does not itself fit.
+    Misfit(Place),
+    /// A variable that has a REF place has no initial value.
+    NoValue(Place),
+    /// There are more than 4,096 places of data and strings.
+    TooManyPlaces(Place),
+    /// A procedure has more than 8 parameters, or more than 64 locals with them.
+    TooManyLocals(Place),
 }
 
 /// How many bytes the line of a decline may have.
@@ -51,6 +63,12 @@ impl Decline {
             Decline::TooManyItems(_) => 6,
             Decline::Unexpected(_) => 7,
             Decline::TooDeep(_) => 8,
+            Decline::DeclaredTwice(_) => 9,
+            Decline::WrongName(_) => 10,
+            Decline::Misfit(_) => 11,
+            Decline::NoValue(_) => 12,
+            Decline::TooManyPlaces(_) => 13,
+            Decline::TooManyLocals(_) => 14,
         }
     }
 
@@ -64,12 +82,18 @@ impl Decline {
             | Decline::IntegerTooLarge(place)
             | Decline::TooManyItems(place)
             | Decline::Unexpected(place)
-            | Decline::TooDeep(place) => place,
+            | Decline::TooDeep(place)
+            | Decline::DeclaredTwice(place)
+            | Decline::WrongName(place)
+            | Decline::Misfit(place)
+            | Decline::NoValue(place)
+            | Decline::TooManyPlaces(place)
+            | Decline::TooManyLocals(place) => place,
         }
     }
 
     /// The line of the decline, `LINE:COLUMN: NUMBER` and a byte 10.
-    #[tactic(auto, using(crate::proofs::Figures::five_at_most, crate::proofs::Figures::one_at_most))]
+    #[tactic(auto, using(crate::proofs::Figures::five_at_most, crate::proofs::Figures::two_at_most))]
     fn line(self, text: &[u8]) -> ArrayString<LINE_BYTES>
         ensures { Says self text.now result.bytes }
     {

@@ -1,4 +1,6 @@
--- Statements that have no statements in them. Assumes nothing.
+-- Statements that have no statements in them, and where in a block names begin to be usable. Assumes nothing.
+use Rattle.std.specs.Prelude.{ℕ}
+use Rattle.statics.specs.Scopes.{Env}
 use Rattle.grammar.specs.Trees.{Statement, block, branch, branch_else, repeat, loop}
 
 abbrev pub Simple : Statement → Type 0
@@ -8,3 +10,7 @@ Simple (branch_else ws s) = ⊥
 Simple (repeat e b) = ⊥
 Simple (loop c s) = ⊥
 Simple s = Unit {0}
+
+-- the same where the first n of the names can be used
+abbrev pub with_ready : Env → ℕ → Env
+with_ready Γ n = record { text = Γ.text; names = Γ.names; ready = n; parts = Γ.parts; result = Γ.result }

@@ -1,6 +1,7 @@
-//! Judging blocks: conditions, statements that have no statements in them, and written modes.
+//! Judging blocks and statements, with the conditions and the written modes in them.
 #![tactic(auto)]
 
 pub mod conditions;
 pub mod simple;
+pub mod statements;
 pub mod written;

@@ -1,5 +1,5 @@
 -- Initial values and module items are judged right. Assumes nothing.
-use Rattle.std.proofs.Common.{◌≡◌, ℕ, ◌+◌, ◌<◌, Bool, true, false, ◌&&◌, List, [], ◌∷◌, length, Some, None, codes, Option, Result, refl, ap, arith}
+use Rattle.std.proofs.Common.{◌≡◌, ℕ, ◌+◌, ◌<◌, ◌≤◌, Bool, true, false, ◌&&◌, List, [], ◌∷◌, length, Some, None, codes, Option, Result, refl, ap, arith}
 use Rattle.std.specs.Option.{option_eq}
 use Rattle.std.specs.Cmp.Lexicographic.{pointwise}
 use Rattle.std.specs.List.{list_all}
@@ -18,7 +18,7 @@ use Rattle.statics.specs.Expressions.{each}
 use Rattle.statics.specs.Written.{mode_of, element_of, written}
 use Rattle.statics.specs.Values.{Want, free, simply, several, recorded, inner, TakesInteger, address_mode, TakesName, TakesString, TakesList, Repeats, total, how_many, front_value, ThenAsk, initial, listed, an_entry, AllStart, ElementStarts, Valueless}
 use Rattle.statics.specs.Modules.{maybe_mode, modes, optional, fields_written, Admitted, data_item, data_dec, in_record, in_procedure, outermost, a_brick, moditem, module_env, module_wrongs}
-use Rattle.statics.specs.Order.{Span, InMany, InMode, InName, InInit, InValue, InValues, InEntry, InDec, InOpt, InFields, InBrick, InModitem, InModule}
+use Rattle.statics.specs.Order.{Span, InMany, InMode, InName, InInit, InValue, InValues, InEntry, InDec, InSpec, InOpt, InFields, InBrick, InModitem, InModule}
 use Rattle.statics.specs.JudgeExpressions.{then, check, keeps, same_mode, judge_each}
 use Rattle.statics.specs.JudgeStatements.{judge_written, is_plain}
 use Rattle.statics.specs.JudgeModules.{takes_integer, takes_name, takes_string, takes_list, repeats, judge_value, judge_values, judge_entry, element_starts, valueless, judge_opt, judge_fields, admitted, judge_data_item, judge_data_dec, judge_brick, judge_moditem, judge_module}
@@ -26,7 +26,7 @@ use Rattle.statics.proofs.Decide.{lacking, cleaned, wider, chain, next, nothing}
 use Rattle.statics.proofs.Fit.{yes, no, tells_unit, same_mode_decides, same_element_decides}
 use Rattle.statics.proofs.Names.{look_judged, keeps_tells}
 use Rattle.statics.proofs.Expressions.{Checks, each_right, many_le}
-use Rattle.statics.proofs.Statements.{tested, starts_decides, refusing, name_le, written_right, element_right, record_name_right, body_right}
+use Rattle.statics.proofs.Statements.{tested, starts_decides, refusing, name_le, mode_lt, element_lt, written_right, element_right, record_name_right, body_right}
 
 -- the same, if all before it is right
 then_tested : {P : Type 0} {b : Bool} {W : Wrongs} {r : Result (Unit {0}) Refusal} (lo hi : ℕ) (f : Refusal) → Span lo hi (place_of f) → Checks lo hi W r → Decides b P → Checks lo hi (ThenAsk W (λ u. P) f) (then r (λ u. check b f))
@@ -169,6 +169,21 @@ admitted_decides w s =
     Decides-or _ _ (triple (bytes_eq-Decides w (codes "INBYTE")) (modes_decides s.takes []) (maybe_mode_decides s.gives (Some INT))) (triple (bytes_eq-Decides w (codes "OUTBYTE")) (modes_decides s.takes (BYTE ∷ [])) (maybe_mode_decides s.gives None))
 
 -- Module items.
+names_le : (ns : Many ℕ) (lo hi : ℕ) → InMany InName lo ns hi → lo ≤ hi
+names_le ns lo hi i = many_le InName name_le ns lo hi i
+
+spec_le : (d : Dec (Many ℕ)) (lo hi : ℕ) → InSpec lo d hi → lo ≤ hi
+spec_le tree.nothing lo hi i = i
+spec_le (variables m ns) lo hi i =
+    let f = mode_lt m lo i.0 i.1 in
+    let g = names_le ns i.0 hi i.2 in
+    omega arith
+spec_le (arrays b n m ns) lo hi i =
+    let f = element_lt m lo i.0 i.1 in
+    let g = names_le ns i.0 hi i.2 in
+    omega arith
+spec_le (structures n ns) lo hi i = let g = names_le ns (n + 1) hi i.1 in omega arith
+
 brick_right : (Γ : Env) (b : Brick) (lo hi : ℕ) → InBrick lo b hi → Checks lo hi (a_brick Γ b) (judge_brick Γ b)
 brick_right Γ (store n ds) lo hi i = wider lo hi (omega (arith, i.0)) (omega arith) (each_right (data_dec Γ) (judge_data_dec Γ) InDec (data_dec_right Γ) ds (n + 1) hi i.1)
 brick_right Γ (procedure n k ps m b e) lo hi i =
@@ -184,7 +199,9 @@ moditem_right Γ (external_procs k ms m ns) lo hi i =
     next (opt_right _ _ (InMany InMode) (each_right _ _ _ (written_right Γ)) ms lo i.0 i.1)
     (next (maybe_right Γ m i.0 j.0 j.1)
     (each_right _ _ InName (λ n lo hi q. tested lo hi (WrongName n) q (admitted_decides (Γ.text.word n) (record { takes = modes Γ.text ms; gives = maybe_mode Γ.text m }))) ns j.0 hi j.2))
-moditem_right Γ (external_store n ds) lo hi i = cleaned (refusing lo hi (WrongName n) i)
+moditem_right Γ (external_store n ds) lo hi i =
+    let f = many_le InSpec spec_le ds (n + 1) hi i.1 in
+    cleaned (refusing lo hi (WrongName n) (i.0, omega arith))
 moditem_right Γ (tree.record_mode n k fs) lo hi i = wider lo hi (omega (arith, i.0)) (omega arith) (fields_right (in_record Γ fs) fs (n + 1) hi i.1)
 moditem_right Γ (own b) lo hi i = brick_right Γ b lo hi i
 moditem_right Γ (entry b) lo hi i = brick_right Γ b lo hi i

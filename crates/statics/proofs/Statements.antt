@@ -1,5 +1,5 @@
 -- Blocks and statements are judged right. Assumes nothing.
-use Rattle.std.proofs.Common.{◌≡◌, ℕ, ◌+◌, ◌≤◌, Bool, length, Some, None, Err, Option, refl, inl, arith}
+use Rattle.std.proofs.Common.{◌≡◌, ℕ, ◌+◌, ◌<◌, ◌≤◌, Bool, length, Some, None, Err, Option, refl, inl, arith}
 use Rattle.std.specs.Bool.{Decides}
 use Rattle.statics.specs.declared.Refusal.{Refusal}
 use Rattle.statics.specs.Refusals.{place_of}
@@ -32,12 +32,27 @@ brought_check Γ m e lo hi i = plainly (brought lo hi (spot e) (expr Γ e) (mode
 pub record_name_right : (Γ : Env) (n lo hi : ℕ) → Span lo hi n → Checks lo hi (record_name Γ n) (judge_record_name Γ n)
 record_name_right Γ n lo hi i = cleaned (look_judged Γ n Shapes shapes lo hi shapes_tells i)
 
+-- a written mode has an item at least
+mutual
+  pub mode_lt : (m : tree.Mode) (lo hi : ℕ) → InMode lo m hi → lo < hi
+  mode_lt tree.int lo hi i = i
+  mode_lt (tree.byte k) lo hi i = i
+  mode_lt tree.ref_int lo hi i = i
+  mode_lt (tree.ref_byte k) lo hi i = i
+  mode_lt (tree.ref_record n) lo hi i = omega arith
+  mode_lt (tree.ref_array m) lo hi i = element_lt m lo hi i
+  mode_lt (tree.ref_array_brackets k m) lo hi i = element_lt m lo hi i
+
+  pub element_lt : (m : tree.Amode) (lo hi : ℕ) → InElement lo m hi → lo < hi
+  element_lt (tree.simple m) lo hi i = mode_lt m lo hi i
+  element_lt (tree.records n) lo hi i = omega arith
+
 mutual
   pub written_right : (Γ : Env) (m : tree.Mode) (lo hi : ℕ) → InMode lo m hi → Checks lo hi (written Γ m) (judge_written Γ m)
-  written_right Γ tree.int lo hi i = nothing i
-  written_right Γ (tree.byte k) lo hi i = nothing i
-  written_right Γ tree.ref_int lo hi i = nothing i
-  written_right Γ (tree.ref_byte k) lo hi i = nothing i
+  written_right Γ tree.int lo hi i = nothing (omega arith)
+  written_right Γ (tree.byte k) lo hi i = nothing (omega arith)
+  written_right Γ tree.ref_int lo hi i = nothing (omega arith)
+  written_right Γ (tree.ref_byte k) lo hi i = nothing (omega arith)
   written_right Γ (tree.ref_record n) lo hi i = record_name_right Γ n lo hi i
   written_right Γ (tree.ref_array m) lo hi i = element_right Γ m lo hi i
   written_right Γ (tree.ref_array_brackets k m) lo hi i = element_right Γ m lo hi i

@@ -45,13 +45,13 @@ InMany I lo (more m a) hi = (k : ℕ) × InMany I lo m k × I k a hi
 abbrev pub InCondition : ℕ → Condition → ℕ → Type 0
 InCondition lo c hi = InMany (InMany InComparison) lo c hi
 
--- Modes: the names in them.
+-- Modes: the names in them, and room for an item at least.
 abbrev mutual
   pub InMode : ℕ → tree.Mode → ℕ → Type 0
-  InMode lo tree.int hi = lo ≤ hi
-  InMode lo (tree.byte i) hi = lo ≤ hi
-  InMode lo tree.ref_int hi = lo ≤ hi
-  InMode lo (tree.ref_byte i) hi = lo ≤ hi
+  InMode lo tree.int hi = lo < hi
+  InMode lo (tree.byte i) hi = lo < hi
+  InMode lo tree.ref_int hi = lo < hi
+  InMode lo (tree.ref_byte i) hi = lo < hi
   InMode lo (tree.ref_record n) hi = Span lo hi n
   InMode lo (tree.ref_array m) hi = InElement lo m hi
   InMode lo (tree.ref_array_brackets i m) hi = InElement lo m hi
@@ -123,11 +123,19 @@ abbrev mutual
   InEntry lo (once v) hi = InValue lo v hi
   InEntry lo (repeated v i n) hi = InValue lo v hi
 
+-- J: what is declared
+abbrev pub InDecOf : {I : Type 0} → (ℕ → I → ℕ → Type 0) → ℕ → Dec I → ℕ → Type 0
+InDecOf J lo tree.nothing hi = lo ≤ hi
+InDecOf J lo (variables m is) hi = (k : ℕ) × InMode lo m k × J k is hi
+InDecOf J lo (arrays b n m is) hi = (k : ℕ) × InElement lo m k × J k is hi
+InDecOf J lo (structures n is) hi = (lo ≤ n) × J (n + 1) is hi
+
 abbrev pub InDec : ℕ → Dec (Many (Init Value)) → ℕ → Type 0
-InDec lo tree.nothing hi = lo ≤ hi
-InDec lo (variables m is) hi = (k : ℕ) × InMode lo m k × InMany (InInit InValue) k is hi
-InDec lo (arrays b n m is) hi = (k : ℕ) × InElement lo m k × InMany (InInit InValue) k is hi
-InDec lo (structures n is) hi = (lo ≤ n) × InMany (InInit InValue) (n + 1) is hi
+InDec lo d hi = InDecOf (InMany (InInit InValue)) lo d hi
+
+-- what EXT DATA describes
+abbrev pub InSpec : ℕ → Dec (Many ℕ) → ℕ → Type 0
+InSpec lo d hi = InDecOf (InMany InName) lo d hi
 
 abbrev pub InOpt : {A : Type 0} → (ℕ → A → ℕ → Type 0) → ℕ → Opt A → ℕ → Type 0
 InOpt I lo tree.none hi = lo ≤ hi
@@ -145,7 +153,7 @@ InBrick lo (procedure n i ps m b e) hi = (lo ≤ n) × ((j : ℕ) × InOpt InFie
 abbrev pub InModitem : ℕ → Moditem → ℕ → Type 0
 InModitem lo blank hi = lo ≤ hi
 InModitem lo (external_procs i ms m ns) hi = (j : ℕ) × InOpt (InMany InMode) lo ms j × ((k : ℕ) × InOpt InMode j m k × InMany InName k ns hi)
-InModitem lo (external_store n ds) hi = Span lo hi n
+InModitem lo (external_store n ds) hi = (lo ≤ n) × InMany InSpec (n + 1) ds hi
 InModitem lo (tree.record_mode n i fs) hi = (lo ≤ n) × InFields (n + 1) fs hi
 InModitem lo (own b) hi = InBrick lo b hi
 InModitem lo (entry b) hi = InBrick lo b hi

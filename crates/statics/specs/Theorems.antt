@@ -1,5 +1,5 @@
 -- What is proved. Assumes nothing.
-use Rattle.std.specs.Prelude.{◌≡◌, ℕ, ◌<◌, true, List, Result}
+use Rattle.std.specs.Prelude.{◌≡◌, ℕ, ◌<◌, true, List, length, Result}
 use Rattle.statics.specs.declared.Refusal.{Refusal}
 use Rattle.grammar.specs.declared.Symbol.{Symbol}
 use Rattle.grammar.specs.Sentences.{Made}
@@ -34,9 +34,9 @@ ModulesRight = (x : Text) (m : Module) (lo hi : ℕ) → InModule lo m hi → Ve
 abbrev pub StaticRight : Type 0
 StaticRight = (x : Text) (m : Module) (w : List Symbol) → Made m w → Static x m (judge_static x m) × ((r : Result (Unit {0}) Refusal) → Static x m r → r ≡ judge_static x m)
 
--- The items of such a tree lie in the order of the text.
+-- The items of such a tree lie in the order of the text, none of them beyond its end.
 abbrev pub InOrder : Type 0
-InOrder = (m : Module) (w : List Symbol) → Made m w → (hi : ℕ) × InModule 0 m hi
+InOrder = (m : Module) (w : List Symbol) → Made m w → InModule 0 m (length w)
 
 -- What something can be brought to, it is brought to by one number of reads.
 abbrev pub OneReading : Type 0

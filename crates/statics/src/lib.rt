@@ -78,7 +78,7 @@ pub fn static_right()
     ensures { StaticRight }
 {}
 
-/// The items that the rules name lie in the tree in the order of the text.
+/// The items that the rules name lie in the tree in the order of the text, none of them beyond its end.
 pub fn in_order()
     ensures { InOrder }
 {}

@@ -39,7 +39,7 @@ impl NodeTable {
 }
 
 /// The place of the item with the number i; behind the last one, the end of the text.
-fn item_place(items: &[Entry], end: Place, i: usize) -> Place
+pub fn item_place(items: &[Entry], end: Place, i: usize) -> Place
     ensures { result ≡ place_of items.now end i }
 {
     items.get(i).map_or(end, |entry| entry.start)

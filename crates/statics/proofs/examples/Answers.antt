@@ -1,4 +1,4 @@
-use Rattle.std.proofs.Common.{List, [], refl}
+use Rattle.std.proofs.Common.{List, [], length, refl}
 use Rattle.grammar.specs.declared.Symbol.{Symbol}
 use Rattle.grammar.specs.Sentences.{Made}
 use Rattle.grammar.specs.Trees.{Module, blank, one}
@@ -11,7 +11,7 @@ use Rattle.statics.proofs.Places.{made_in_order}
 use Rattle.statics.proofs.examples.Goals as goal
 
 from_made : (x : Text) (m : Module) (w : List Symbol) → Made m w → Static x m (judge_static x m)
-from_made x m w e = let i = made_in_order m w e in static_right_lem x m 0 i.0 i.1
+from_made x m w e = static_right_lem x m 0 (length w) (made_in_order m w e)
 
 pub returns : goal.returns
 returns c = record {

@@ -1,3 +1,4 @@
+use Rattle.std.proofs.Common.{length}
 use Rattle.statics.specs.Stages.{stages, all_moved, moved}
 use Rattle.statics.specs.JudgeLimits.{judge_static}
 use Rattle.statics.proofs.Limits.{static_right_lem, staged_one, moved_staged}
@@ -6,6 +7,5 @@ use Rattle.statics.proofs.moving_right.Goals as goal
 
 pub returns : goal.returns
 returns c = λ g inc x m w e.
-    let i = made_in_order m w e in
-    let s = moved_staged g inc (stages x m) (judge_static x m) (static_right_lem x m 0 i.0 i.1) in
+    let s = moved_staged g inc (stages x m) (judge_static x m) (static_right_lem x m 0 (length w) (made_in_order m w e)) in
     (s, λ r t. staged_one (all_moved g (stages x m)) (moved g (judge_static x m)) r s t)

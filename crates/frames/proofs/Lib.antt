@@ -1,0 +1,5 @@
+pub mod Filled
+pub mod Listing
+pub mod Counts
+pub mod Entering
+pub mod Declaring

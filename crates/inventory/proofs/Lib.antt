@@ -1,0 +1,3 @@
+pub mod Pairs
+pub mod Items
+pub mod Whole

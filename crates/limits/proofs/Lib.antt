@@ -1,0 +1,9 @@
+pub mod Least
+pub mod Looking
+pub mod Entries
+pub mod Tables
+pub mod Parts
+pub mod Putting
+pub mod Holding
+pub mod Scoped
+pub mod Allowed

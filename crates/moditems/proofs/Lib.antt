@@ -1,0 +1,4 @@
+mod Admitting
+mod Arrayed
+pub mod Each
+mod Items

@@ -1,0 +1,4 @@
+pub mod Strung
+pub mod Leading
+pub mod Dividing
+pub mod Declaring

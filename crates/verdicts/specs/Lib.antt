@@ -1,0 +1,4 @@
+pub mod Verdicts
+pub mod Lines
+pub mod Examples
+pub mod Facts
