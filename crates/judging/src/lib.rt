@@ -4,9 +4,11 @@
 pub mod fronts;
 pub mod operators;
 
+ghost use Rattle.grammar.specs.declared.Symbol.{Symbol};
+ghost use Rattle.nodes.specs.declared.Node.TheVariants.{Dyadic as DyadicNode, Monadic as MonadicNode};
 ghost use Rattle.std.specs.Prelude.{◌≡◌, ℕ, ◌+◌, ◌<◌, ◌≤◌, ◌^◌, IfOk, cond, length, map, None, Ok, Err, MatchResult, ok_or, option_map, ◌==◌};
 ghost use Rattle.grammar.specs.Trees.{Expr, Exprs, Variable};
-ghost use Rattle.nodes.specs.Nodes.{IsExpr, IsExprs, IsVariable};
+ghost use Rattle.nodes.specs.Nodes.{At, IsExpr, IsExprs, IsVariable};
 ghost use Rattle.statics.specs.declared.Refusal.TheVariants.{Misfit};
 ghost use Rattle.statics.specs.Fronts.{spot as spot_of};
 ghost use Rattle.statics.specs.Expressions.{count};
@@ -149,7 +151,7 @@ fn headed(env: Env<'_>, nodes: &[Node], name: usize, index: usize) -> Result<Thi
     }
 }
 
-/// What an expression stands for.
+/// What an expression stands for. Only what chains of operators need is done here, since each of them takes a level of the stack.
 #[cycle(expressions)]
 pub fn judge(env: Env<'_>, nodes: &[Node], k: usize) -> Result<Thing, Refusal>
     ensures { (n : ℕ) (e : Expr n) → IsExpr e nodes.now k → Answers (thing_means (facts env.entry.text)) result (judge_of (env_means env.entry) e) }
@@ -164,6 +166,16 @@ pub fn judge(env: Env<'_>, nodes: &[Node], k: usize) -> Result<Thing, Refusal>
             let _ = brought(env, nodes, argument(operator), inner)?;
             Ok(Thing::Value(outcome(operator)))
         }
+        _ => primary(env, nodes, k),
+    }
+}
+
+/// What an expression stands for in which no operator is outside brackets.
+#[cycle(expressions)]
+fn primary(env: Env<'_>, nodes: &[Node], k: usize) -> Result<Thing, Refusal>
+    ensures { (n : ℕ) (e : Expr n) → IsExpr e nodes.now k → ((c : Symbol) (i l r : ℕ) → At nodes.now k (DyadicNode c i l r) → ⊥) → ((c : Symbol) (i r : ℕ) → At nodes.now k (MonadicNode c i r) → ⊥) → Answers (thing_means (facts env.entry.text)) result (judge_of (env_means env.entry) e) }
+{
+    match node_at(nodes, k) {
         Node::Integer(item) => Ok(figure(env.text.value(item))),
         Node::Text(_) => Ok(STRING),
         Node::Call(name, _) => {

@@ -13,7 +13,8 @@ use Rattle.nodes.proofs.Results.{passed}
 use Rattle.judging.proofs.Standing.{stops, goes, answered, found, placed, judged, left_over, left_over_place, listed, alone, named, unnamed}
 use Rattle.judging.proofs.+expressions.Goals as goal
 use Rattle.judging.proofs.+expressions.Goals.{arguments-in_default-via-in-Also+then-front-list+else-last-list, arguments-in_default-via-in-Also+else-front-list, arguments-in_default-via-in_default}
-use Rattle.judging.proofs.+expressions.Goals.{judge-in_default-via-in-Dyadic+then-left-k+else-right-k, judge-in_default-via-in-Dyadic+else-left-k, judge-in_default-via-in-Monadic+else-inner-k, judge-in_default-via-in-CallOn+else-list-k, judge-in_default-via-in-Paren+else-inner-k-2, judge-in_default-via-in-Element+else-index-k, judge-in_default-via-in_default}
+use Rattle.judging.proofs.+expressions.Goals.{judge-in_default-via-in-Dyadic+then-left-k+else-right-k, judge-in_default-via-in-Dyadic+else-left-k, judge-in_default-via-in-Monadic+else-inner-k, judge-in_default-via-in_default}
+use Rattle.judging.proofs.+expressions.Goals.{primary-in_default-via-in-CallOn+else-list-k, primary-in_default-via-in-Paren+else-inner-k, primary-in_default-via-in-Element+else-index-k, primary-in_default-via-in_default}
 use Rattle.judging.proofs.+expressions.Goals.{variable-in_default-via-in-Element+then-base-k+else-index-k, variable-in_default-via-in-Element+else-base-k, variable-in_default-via-in-Component+else-base-k-2, variable-in_default-via-in_default}
 
 pub arguments-returns-in_err-before-in-Also-clause-judged : goal.arguments-returns-in_err-before-in-Also-clause-judged
@@ -72,18 +73,18 @@ judge-returns-in_err-brought-in-Monadic t c n e is =
     let x = judged (env_means c.args.env) _ _ e _ (sym c.in-Monadic.ensures) is in
     passed _ _ c.from_residual-in_err-brought-in-Monadic.result c.from_residual-in_err-brought-in-Monadic.ensures.1 (x.5 ∙ stops _ _ _ (rw (c.argument.ensures x.1 x.2 (facts c.args.env.text)) at (c.in_err-brought-in-Monadic.ensures _ x.0 x.4)))
 
-pub judge-returns-in_err-signature-in-Call : goal.judge-returns-in_err-signature-in-Call
-judge-returns-in_err-signature-in-Call t c n e is =
+pub primary-returns-in_err-signature-in-Call : goal.primary-returns-in_err-signature-in-Call
+primary-returns-in_err-signature-in-Call t c n e is d m =
     let x = judged (env_means c.args.env) _ _ e _ (sym c.in-Call.ensures) is in
-    passed _ _ c.from_residual-in_err-signature-in-Call.result c.from_residual-in_err-signature-in-Call.ensures.1 (x ∙ stops _ _ _ c.in_err-signature-in-Call.ensures)
+    passed _ _ c.from_residual.result c.from_residual.ensures.1 (x ∙ stops _ _ _ c.in_err-signature-in-Call.ensures)
 
-pub judge-returns-in_err-signature-in-CallOn : goal.judge-returns-in_err-signature-in-CallOn
-judge-returns-in_err-signature-in-CallOn t c n e is =
+pub primary-returns-in_err-signature-in-CallOn : goal.primary-returns-in_err-signature-in-CallOn
+primary-returns-in_err-signature-in-CallOn t c n e is d m =
     let x = judged (env_means c.args.env) _ _ e _ (sym c.in-CallOn.ensures) is in
     passed _ _ c.from_residual-in_err-signature-in-CallOn.result c.from_residual-in_err-signature-in-CallOn.ensures.1 (x.3 ∙ stops _ _ _ c.in_err-signature-in-CallOn.ensures)
 
-pub judge-returns-in_err-count-in-CallOn : goal.judge-returns-in_err-count-in-CallOn
-judge-returns-in_err-count-in-CallOn t c n e is =
+pub primary-returns-in_err-count-in-CallOn : goal.primary-returns-in_err-count-in-CallOn
+primary-returns-in_err-count-in-CallOn t c n e is d m =
     let x = judged (env_means c.args.env) _ _ e _ (sym c.in-CallOn.ensures) is in
     passed _ _ c.from_residual-in_err-count-in-CallOn.result c.from_residual-in_err-count-in-CallOn.ensures.1 (x.3 ∙ goes _ _ _ c.in_ok-signature-in-CallOn.ensures ∙ stops _ _ _ (rw c.parameters.ensures at (c.in_err-count-in-CallOn.ensures.judged x.0 x.2)))
 
@@ -97,35 +98,35 @@ judge-returns-in_ok-brought-in-Monadic t c n e is =
     let x = judged (env_means c.args.env) _ _ e _ (sym c.in-Monadic.ensures) is in
     x.5 ∙ goes _ _ _ (rw (c.argument.ensures x.1 x.2 (facts c.args.env.text)) at (c.in_ok-brought-in-Monadic.ensures _ x.0 x.4)) ∙ ap (λ (m : Mode). Ok (value m)) (sym (c.outcome.ensures x.1 x.2 (facts c.args.env.text)))
 
-pub judge-returns-in-Integer : goal.judge-returns-in-Integer
-judge-returns-in-Integer t c n e is = judged (env_means c.args.env) _ _ e _ (sym c.in-Integer.ensures) is ∙ ap Ok (sym (c.figure.ensures (facts c.args.env.text) ∙ ap figure c.value.ensures))
+pub primary-returns-in-Integer : goal.primary-returns-in-Integer
+primary-returns-in-Integer t c n e is d m = judged (env_means c.args.env) _ _ e _ (sym c.in-Integer.ensures) is ∙ ap Ok (sym (c.figure.ensures (facts c.args.env.text) ∙ ap figure c.value.ensures))
 
-pub judge-returns-in-Text : goal.judge-returns-in-Text
-judge-returns-in-Text t c n e is = judged (env_means c.args.env) _ _ e _ (sym c.in-Text.ensures) is
+pub primary-returns-in-Text : goal.primary-returns-in-Text
+primary-returns-in-Text t c n e is d m = judged (env_means c.args.env) _ _ e _ (sym c.in-Text.ensures) is
 
-pub judge-returns-in_ok-signature-in-Call : goal.judge-returns-in_ok-signature-in-Call
-judge-returns-in_ok-signature-in-Call t c n e is =
+pub primary-returns-in_ok-signature-in-Call : goal.primary-returns-in_ok-signature-in-Call
+primary-returns-in_ok-signature-in-Call t c n e is d m =
     let x = judged (env_means c.args.env) _ _ e _ (sym c.in-Call.ensures) is in
     answered _ _ _ _ (x ∙ goes _ _ _ c.in_ok-signature-in-Call.ensures) c.yielded.ensures
 
-pub judge-returns-in_ok-count-in-CallOn : goal.judge-returns-in_ok-count-in-CallOn
-judge-returns-in_ok-count-in-CallOn t c n e is =
+pub primary-returns-in_ok-count-in-CallOn : goal.primary-returns-in_ok-count-in-CallOn
+primary-returns-in_ok-count-in-CallOn t c n e is d m =
     let x = judged (env_means c.args.env) _ _ e _ (sym c.in-CallOn.ensures) is in
     let y = c.in_ok-count-in-CallOn.ensures.judged x.0 x.2 in
     answered _ _ _ _ (x.3 ∙ goes _ _ _ c.in_ok-signature-in-CallOn.ensures ∙ goes _ _ _ (rw c.parameters.ensures at y.1)) (rw y.0 at c.yielded-in-CallOn.ensures)
 
-pub judge-returns-in-Paren : goal.judge-returns-in-Paren
-judge-returns-in-Paren t c n e is =
+pub primary-returns-in-Paren : goal.primary-returns-in-Paren
+primary-returns-in-Paren t c n e is d m =
     let x = judged (env_means c.args.env) _ _ e _ (sym c.in-Paren.ensures) is in
     answered _ _ _ _ x.3 (c.judge.ensures _ x.0 x.2)
 
-pub judge-returns-in-Name : goal.judge-returns-in-Name
-judge-returns-in-Name t c n e is =
+pub primary-returns-in-Name : goal.primary-returns-in-Name
+primary-returns-in-Name t c n e is d m =
     let x = judged (env_means c.args.env) _ _ e _ (sym c.in-Element.ensures) is in
     answered _ _ _ _ (x.6 ∙ named (env_means c.args.env) _ _ _ _ x.0 _ (sym c.in-Name.ensures) x.3) (c.headed.ensures _ x.1 x.4)
 
-pub judge-returns-in_default-node_at : goal.judge-returns-in_default-node_at
-judge-returns-in_default-node_at t c n e is =
+pub primary-returns-in_default-node_at : goal.primary-returns-in_default-node_at
+primary-returns-in_default-node_at t c n e is d m =
     let x = judged (env_means c.args.env) _ _ e _ (sym c.in-Element.ensures) is in
     answered _ _ _ _ (x.6 ∙ unnamed (env_means c.args.env) _ _ _ _ x.0 (λ m at. c.in_default-node_at.not-Name m (c.node_at-in-Element.ensures ∙ at)) x.3) (c.variable.ensures (element x.0 _ x.1) x.5)
 
@@ -134,10 +135,15 @@ judge-returns-in_default t c n e is = elim c.in_default.branch [
   | judge-in_default-via-in-Dyadic+then-left-k+else-right-k w ↦ let x = judged (env_means c.args.env) _ _ e _ (sym w.in-Dyadic.ensures) is in absurd (omega (arith, x.6))
   | judge-in_default-via-in-Dyadic+else-left-k w ↦ let x = judged (env_means c.args.env) _ _ e _ (sym w.in-Dyadic.ensures) is in absurd (omega (arith, x.5))
   | judge-in_default-via-in-Monadic+else-inner-k w ↦ let x = judged (env_means c.args.env) _ _ e _ (sym w.in-Monadic.ensures) is in absurd (omega (arith, x.3))
-  | judge-in_default-via-in-CallOn+else-list-k w ↦ let x = judged (env_means c.args.env) _ _ e _ (sym w.in-CallOn.ensures) is in absurd (omega (arith, x.1))
-  | judge-in_default-via-in-Paren+else-inner-k-2 w ↦ let x = judged (env_means c.args.env) _ _ e _ (sym w.in-Paren.ensures) is in absurd (omega (arith, x.1))
-  | judge-in_default-via-in-Element+else-index-k w ↦ let x = judged (env_means c.args.env) _ _ e _ (sym w.in-Element.ensures) is in absurd (omega (arith, x.2))
-  | judge-in_default-via-in_default w ↦ let x = left_over (env_means c.args.env) c.args.nodes.now c.args.k c.node_at.result _ (judged (env_means c.args.env) _ _ e _ (sym c.node_at.ensures) is) w.in_default.not-Dyadic w.in_default.not-Monadic w.in_default.not-Integer w.in_default.not-Text w.in_default.not-Call w.in_default.not-CallOn w.in_default.not-Paren w.in_default.not-Element in
+  | judge-in_default-via-in_default w ↦ c.primary.ensures n e is (λ o i l r at. w.in_default.not-Dyadic o i l r (c.node_at.ensures ∙ at)) (λ o i r at. w.in_default.not-Monadic o i r (c.node_at.ensures ∙ at))
+]
+
+pub primary-returns-in_default : goal.primary-returns-in_default
+primary-returns-in_default t c n e is d m = elim c.in_default.branch [
+  | primary-in_default-via-in-CallOn+else-list-k w ↦ let x = judged (env_means c.args.env) _ _ e _ (sym w.in-CallOn.ensures) is in absurd (omega (arith, x.1))
+  | primary-in_default-via-in-Paren+else-inner-k w ↦ let x = judged (env_means c.args.env) _ _ e _ (sym w.in-Paren.ensures) is in absurd (omega (arith, x.1))
+  | primary-in_default-via-in-Element+else-index-k w ↦ let x = judged (env_means c.args.env) _ _ e _ (sym w.in-Element.ensures) is in absurd (omega (arith, x.2))
+  | primary-in_default-via-in_default w ↦ let x = left_over (env_means c.args.env) c.args.nodes.now c.args.k c.node_at.result _ (judged (env_means c.args.env) _ _ e _ (sym c.node_at.ensures) is) (λ o i l r at. d o i l r (sym c.node_at.ensures ∙ at)) (λ o i r at. m o i r (sym c.node_at.ensures ∙ at)) w.in_default.not-Integer w.in_default.not-Text w.in_default.not-Call w.in_default.not-CallOn w.in_default.not-Paren w.in_default.not-Element in
       answered _ _ _ _ x.2 (c.variable-in_default.ensures x.0 x.1)
 ]
 
