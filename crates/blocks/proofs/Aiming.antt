@@ -1,29 +1,20 @@
 -- What stands at the nodes of destinations and of an assignment, and how they are judged. Assumes nothing.
-use Rattle.std.proofs.Common.{◌≡◌, ℕ, ◌<◌, List, Ok, Some, refl, subst}
-use Rattle.grammar.specs.Trees.{Expr, Variable, name, element, component, Many, one, more, Destination, place, val, Statement, dummy, block, assign, invoke, invoke_on, branch, branch_else, repeat, loop, return, return_with}
+use Rattle.std.proofs.Common.{◌≡◌, ℕ, List, refl, subst}
+use Rattle.grammar.specs.Trees.{Expr, Variable, name, element, component, Many, Destination, place, val, Statement, dummy, block, assign, invoke, invoke_on, branch, branch_else, repeat, loop, return, return_with}
 use Rattle.nodes.specs.Nodes.{At, IsExpr, IsVariable, IsMany, IsDestination, IsStatement}
 use Rattle.nodes.specs.declared.Node.{Node}
-use Rattle.nodes.specs.declared.Node.TheVariants.{Also, Val, Assign}
+use Rattle.nodes.specs.declared.Node.TheVariants.{Val, Assign}
 use Rattle.statics.specs.Modes.{pointed}
 use Rattle.statics.specs.Scopes.{Env}
 use Rattle.statics.specs.Fronts.{spot, front_variable, front_destination, front_destinations}
 use Rattle.statics.specs.JudgeExpressions.{then, bring, judge, judge_variable}
-use Rattle.statics.specs.JudgeStatements.{join, judge_into, judge_target, judge_targets, judge_statement}
+use Rattle.statics.specs.JudgeStatements.{judge_into, judge_target, judge_targets, judge_statement}
 
 module _ (ns : List Node) (k : ℕ) where
   no_val : (v : Variable) (i r : ℕ) → At ns k (Val i r) → IsVariable v ns k → ⊥
   no_val (name n) i r at is = absurd (cc (at, is))
   no_val (element v j e) i r at is = absurd (cc (at, is.4))
   no_val (component v n) i r at is = absurd (cc (at, is.2))
-
-  no_also : (v : Variable) (l r : ℕ) → At ns k (Also l r) → IsVariable v ns k → ⊥
-  no_also (name n) l r at is = absurd (cc (at, is))
-  no_also (element v j e) l r at is = absurd (cc (at, is.4))
-  no_also (component v n) l r at is = absurd (cc (at, is.2))
-
-  alone : (d : Destination) (l r : ℕ) → At ns k (Also l r) → IsDestination d ns k → ⊥
-  alone (place v) l r at is = no_also v l r at is
-  alone (val i v) l r at is = absurd (cc (at, is.2))
 
   -- behind VAL
   pub valued : (d : Destination) (i r : ℕ) → At ns k (Val i r) → IsDestination d ns k → (v : Variable) × IsVariable v ns r × ((Γ : Env) → judge_target Γ d ≡ bring pointed (front_variable v) (judge_variable Γ v)) × (front_destination d ≡ i)
@@ -32,19 +23,6 @@ module _ (ns : List Node) (k : ℕ) where
       let p : is.0 ≡ r = cc (at, is.2) in
       let q : j ≡ i = cc (at, is.2) in
       (v, subst (λ (m : ℕ). IsVariable v ns m) p is.3, λ Γ. refl, q)
-
-  -- a list and one more
-  pub several : (ds : Many Destination) (l r : ℕ) → At ns k (Also l r) → IsMany IsDestination ds ns k → (es : Many Destination) × (d : Destination) × (l < k) × IsMany IsDestination es ns l × IsDestination d ns r × ((Γ : Env) → judge_targets Γ ds ≡ then (judge_targets Γ es) (λ a. then (judge_target Γ d) (λ m. Ok (join a m)))) × (front_destinations ds ≡ front_destinations es)
-  several (one d) l r at is = absurd (alone d l r at is)
-  several (more es d) l r at is =
-      let p : is.0 ≡ l = cc (at, is.4) in
-      let q : is.1 ≡ r = cc (at, is.4) in
-      (es, d, subst (λ (m : ℕ). m < k) p is.2, subst (λ (m : ℕ). IsMany IsDestination es ns m) p is.5, subst (λ (m : ℕ). IsDestination d ns m) q is.6, λ Γ. refl, refl)
-
-  -- a destination alone
-  pub single : (ds : Many Destination) → ((l r : ℕ) → At ns k (Also l r) → l < k → ⊥) → IsMany IsDestination ds ns k → (d : Destination) × IsDestination d ns k × ((Γ : Env) → judge_targets Γ ds ≡ then (judge_target Γ d) (λ m. Ok (Some m))) × (front_destinations ds ≡ front_destination d)
-  single (one d) low is = (d, is, λ Γ. refl, refl)
-  single (more es d) low is = absurd (low is.0 is.1 is.4 is.2)
 
   -- with no VAL in front
   pub unvalued : (d : Destination) → ((i r : ℕ) → At ns k (Val i r) → ⊥) → IsDestination d ns k → (v : Variable) × IsVariable v ns k × (front_destination d ≡ front_variable v)

@@ -1,3 +1,4 @@
+pub mod Agreeing
 pub mod Aiming
 pub mod Comparing
 pub mod Declaring

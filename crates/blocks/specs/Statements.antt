@@ -1,7 +1,7 @@
--- Statements that have no statements in them, and where in a block names begin to be usable. Assumes nothing.
+-- Statements that have no statements in them, the first of many, and where in a block names begin to be usable. Assumes nothing.
 use Rattle.std.specs.Prelude.{ℕ}
 use Rattle.statics.specs.Scopes.{Env}
-use Rattle.grammar.specs.Trees.{Statement, block, branch, branch_else, repeat, loop}
+use Rattle.grammar.specs.Trees.{Many, one, more, Statement, block, branch, branch_else, repeat, loop}
 
 abbrev pub Simple : Statement → Type 0
 Simple (block b) = ⊥
@@ -14,3 +14,7 @@ Simple s = Unit {0}
 -- the same where the first n of the names can be used
 abbrev pub with_ready : Env → ℕ → Env
 with_ready Γ n = record { text = Γ.text; names = Γ.names; ready = n; parts = Γ.parts; result = Γ.result }
+
+abbrev pub first_of : {A : Type 0} → Many A → A
+first_of (one a) = a
+first_of (more m a) = first_of m

@@ -1,18 +1,21 @@
 //! Judging statements that have no statements in them, and what a local is given.
-ghost use Rattle.std.specs.Prelude.{◌≡◌, ℕ, cond, length, None, Option, ok_or, option_map, ◌==◌};
+ghost use Rattle.std.specs.Prelude.{◌≡◌, ℕ, cond, length, None, Option, Ok, Result, ok_or, option_map, ◌==◌};
 ghost use Rattle.grammar.specs.Trees.{Expr, Variable, Many, Init, Destination, Statement};
 ghost use Rattle.nodes.specs.Nodes.{IsExpr, IsVariable, IsMany, IsInit, IsDestination, IsStatement};
+ghost use Rattle.statics.specs.declared.Refusal.{Refusal as Refused};
 ghost use Rattle.statics.specs.declared.Refusal.TheVariants.{Misfit};
+ghost use Rattle.statics.specs.Modes.{Mode as ModeOf};
 ghost use Rattle.statics.specs.Fronts.{spot as spot_of, front_variable, front_destinations};
-ghost use Rattle.statics.specs.JudgeExpressions.{bring as bring_of, judge as judge_of, judge_variable};
+ghost use Rattle.statics.specs.JudgeExpressions.{then, bring as bring_of, judge as judge_of, judge_variable};
 ghost use Rattle.statics.specs.JudgeStatements.{judge_into, judge_local_item, join, judge_target, judge_targets, judge_statement, silent as silent_of};
 ghost use Rattle.texts.specs.Facts.{facts};
 ghost use Rattle.modes.specs.Meanings.{mode_means, need_means};
 ghost use Rattle.scopes.specs.Meanings.{signature_means, env_means, Answers};
-ghost use Rattle.blocks.specs.Statements.{Simple};
+ghost use Rattle.blocks.specs.Statements.{Simple, first_of};
 
 use judging::fronts::{front, spot};
 use judging::{arguments, bring, judge, variable};
+use lists::parted;
 use modes::{Mode, Need};
 use nodes::{Node, node_at};
 use scopes::{Env, Signature};
@@ -78,34 +81,52 @@ fn joined(env: Env<'_>, common: Option<Mode>, mode: Mode) -> Option<Mode>
     }
 }
 
-/// The mode that all destinations have, if they have one.
+/// The common mode of a destination and those behind it, if they have one; or the first of them that is wrong.
+fn met(
+    env: Env<'_>,
+    mode: Result<Mode, Refusal>,
+    common: Result<Option<Mode>, Refusal>,
+) -> Result<Option<Mode>, Refusal>
+    ensures { (m : Result ModeOf Refused) (c : Result (Option ModeOf) Refused) → Answers (mode_means (facts env.entry.text)) mode m → Answers (option_map (mode_means (facts env.entry.text))) common c → Answers (option_map (mode_means (facts env.entry.text))) result (then m (λ k. then c (λ a. Ok (join a k)))) }
+{
+    let mode = mode?;
+    Ok(joined(env, common?, mode))
+}
+
+/// The first of the destinations.
+fn first_target(nodes: &[Node], k: usize) -> usize
+    ensures { (ds : Many Destination) → IsMany IsDestination ds nodes.now k → IsDestination (first_of ds) nodes.now result }
+{
+    let mut at = k;
+    while let Some((front, _)) = parted(nodes, at) {
+        at = front;
+    }
+    at
+}
+
+/// The mode that all destinations have, if they have one. Behind the first, they are judged from the last on, so that many take no more of the
+/// stack than few.
 fn targets(env: Env<'_>, nodes: &[Node], k: usize) -> Result<Option<Mode>, Refusal>
     ensures { (ds : Many Destination) → IsMany IsDestination ds nodes.now k → Answers (option_map (mode_means (facts env.entry.text))) result (judge_targets (env_means env.entry) ds) }
 {
-    match node_at(nodes, k) {
-        Node::Also(front, last) if front < k => {
-            let common = targets(env, nodes, front)?;
-            let mode = target(env, nodes, last)?;
-            Ok(joined(env, common, mode))
-        }
-        _ => {
-            let mode = target(env, nodes, k)?;
-            Ok(Some(mode))
-        }
+    let first = target(env, nodes, first_target(nodes, k))?;
+    let mut common = Ok(Some(first));
+    let mut at = k;
+    while let Some((front, last)) = parted(nodes, at) {
+        common = met(env, target(env, nodes, last), common);
+        at = front;
     }
+    common
 }
 
 /// The first item of destinations.
 fn front_of_targets(nodes: &[Node], k: usize) -> usize
     ensures { (ds : Many Destination) → IsMany IsDestination ds nodes.now k → result ≡ front_destinations ds }
 {
-    let mut at = k;
-    loop {
-        match node_at(nodes, at) {
-            Node::Also(first, _) if first < at => at = first,
-            Node::Val(item, _) => return item,
-            _ => return front(nodes, at),
-        }
+    let first = first_target(nodes, k);
+    match node_at(nodes, first) {
+        Node::Val(item, _) => item,
+        _ => front(nodes, first),
     }
 }
 

@@ -16,7 +16,7 @@ use Rattle.scopes.specs.declared.Declared.{Declared}
 use Rattle.scopes.specs.Meanings.{Answers}
 use Rattle.frames.specs.declared.Frame.{Frame}
 use Rattle.frames.specs.Frames.{frame_means}
-use Rattle.judging.proofs.Standing.{stops, goes}
+use Rattle.scopes.proofs.Following.{stops, goes}
 use Rattle.blocks.proofs.Framing.{same_frame}
 use Rattle.checker.specs.Filled.{Filled}
 use Rattle.inventory.proofs.Whole.{whole}

@@ -7,6 +7,7 @@ use std::io::{Read, Write};
 use verdicts::{WorkTable, judge};
 
 /// A work table on the heap. It is made in a function of its own, so that none of its copies lies on the stack while a text is judged.
+#[inline(never)]
 fn work_table(heap: Global) -> anyhow::Result<Vec<WorkTable>> {
     let mut tables = Vec::new(heap);
     tables.push(WorkTable::new())?;

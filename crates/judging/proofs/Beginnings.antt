@@ -1,9 +1,10 @@
 -- The first items of the forms in a table, and the items of their misfits. Assumes nothing.
-use Rattle.std.proofs.Common.{◌≡◌, ℕ, ◌<◌, List, Some, None, slice_index_or, refl, subst, arith}
+use Rattle.std.proofs.Common.{◌≡◌, ℕ, ◌<◌, List, Some, None, slice_index_or, refl, sym, ◌∙◌, subst, arith}
+use Rattle.grammar.specs.declared.Symbol.{Symbol}
 use Rattle.grammar.specs.Trees.{Expr, term, up, dyadic, Term, monadic, primary, Primary, integer, text, variable, call, call_on, paren, Variable, name, element, component}
 use Rattle.nodes.specs.Nodes.{At, IsExpr, IsTerm, IsPrimary, IsVariable, blank_node}
 use Rattle.nodes.specs.declared.Node.{Node}
-use Rattle.nodes.specs.declared.Node.TheVariants.{Paren}
+use Rattle.nodes.specs.declared.Node.TheVariants.{Paren, Monadic}
 use Rattle.statics.specs.Fronts.{front, front_term, front_primary, front_variable, spot, spot_term, spot_primary}
 use Rattle.judging.specs.Openings.{left_of, item_of}
 
@@ -91,3 +92,8 @@ module _ (ns : List Node) where
         outside_primary (variable x) is = refl
         outside_primary (call n i) is = refl
         outside_primary (call_on n i es e) is = refl
+
+  -- the item of a monadic operator
+  pub monadic_spot : {n : ℕ} (e : Expr n) (k i r : ℕ) (c : Symbol) → At ns k (Monadic c i r) → IsExpr e ns k → spot e ≡ i
+  monadic_spot e k i r c at is =
+      sym (outside k (λ j s h. absurd (cc (at, h))) e is) ∙ sym (opens (λ j h. absurd (cc (at, h))) (begins e k is)) ∙ rw at refl

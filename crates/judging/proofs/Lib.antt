@@ -1,3 +1,5 @@
 pub mod Beginnings
+pub mod Chains
+pub mod Layers
 pub mod Spelled
 pub mod Standing

@@ -1,5 +1,6 @@
 -- What stands at a node, by the kind of the node, and how it is judged. Assumes nothing.
-use Rattle.std.proofs.Common.{◌≡◌, ℕ, suc, ◌<◌, List, Ok, Err, Result, slice_get, Some, None, Option, MatchOption, IfSome, option_copied, option_map, map, length, get_or, ◌≤◌, Bor, sym, refl, ap, ◌∙◌, subst}
+use Rattle.std.proofs.Common.{◌≡◌, ℕ, zero, suc, ◌<◌, List, [], Ok, Err, Result, IfOk, MatchResult, slice_get, Some, None, Option, MatchOption, IfSome, option_copied, option_map, map, length, get_or, ◌≤◌, Bor, sym, refl, ap, ◌∙◌, subst}
+use Rattle.std.specs.Result.{result_and}
 use Rattle.std.proofs.lemmas.Option.{slice_get-map, slice_get_past, slice_get-get_or}
 use Rattle.grammar.specs.declared.Symbol.{Symbol}
 use Rattle.grammar.specs.Trees.{Expr, term, up, dyadic, Term, monadic, primary, Primary, integer, text, variable, call, call_on, paren, Variable, name, element, component, Exprs, first, comma, Dyadic as DyadicOperator, Monadic as MonadicOperator, spell, spell_monadic}
@@ -7,34 +8,32 @@ use Rattle.nodes.specs.Nodes.{At, IsExpr, IsTerm, IsPrimary, IsVariable, IsExprs
 use Rattle.nodes.specs.declared.Node.{Node}
 use Rattle.nodes.specs.declared.Node.TheVariants.{Integer, Text, Name, Element, Component, Call, CallOn, Paren, Monadic, Dyadic, Also}
 use Rattle.statics.specs.declared.Refusal.{Refusal}
-use Rattle.statics.specs.Modes.{Mode, Thing, value}
+use Rattle.statics.specs.Modes.{Mode, Thing, value, Need}
 use Rattle.statics.specs.Scopes.{Env}
 use Rattle.statics.specs.Fronts.{spot, front_variable}
 use Rattle.statics.specs.Expressions.{operand, result, argument, outcome, count, figure, string_thing}
-use Rattle.statics.specs.JudgeExpressions.{then, bring, look, stands, heads, yields, pass, judge, judge_term, judge_primary, judge_variable, judge_args, judge_call, judge_bracketed, judge_head, judge_subscript, judge_select}
+use Rattle.statics.specs.JudgeExpressions.{then, bring, look, heads, yields, judge, judge_term, judge_primary, judge_variable, judge_args, judge_call, judge_bracketed, judge_head, judge_subscript, judge_select}
 use Rattle.scopes.specs.Meanings.{Answers}
+use Rattle.scopes.proofs.Following.{stops, goes, answered}
+use Rattle.lists.specs.Lists.{of_exprs}
+use Rattle.judging.specs.Openings.{stripped, layer}
 
--- what follows something refused, and something right
-pub stops : {A B : Type 0} (r : Result A Refusal) (g : A → Result B Refusal) (f : Refusal) → r ≡ Err f → then r g ≡ Err f
-stops {A = A} r g f h = ap (λ (s : Result A Refusal). then s g) h
-
-pub goes : {A B : Type 0} (r : Result A Refusal) (g : A → Result B Refusal) (a : A) → r ≡ Ok a → then r g ≡ g a
-goes {A = A} r g a h = ap (λ (s : Result A Refusal). then s g) h
-
-pub answered : {A B : Type 0} (f : A → B) (r : Result A Refusal) (i j : Result B Refusal) → i ≡ j → Answers f r j → Answers f r i
-answered {B = B} f r i j e h = subst (λ (x : Result B Refusal). Answers f r x) (sym e) h
+-- where an operator with one operand gives t
+pub inward : (x : Result Mode Refusal) (n : Need) (s : ℕ) (t : Thing) (w : Result Thing Refusal) → then (bring n s (then x (λ m. Ok t))) (λ m. w) ≡ then x (λ m. then (bring n s (Ok t)) (λ k. w))
+inward (Ok m) n s t w = refl
+inward (Err f) n s t w = refl
 
 -- what is found by an index, read by f
 pub found : {A B : Type 0} (f : A → B) (Q : Bor A → Type 0) (a : Option A) (o : Option (Bor A)) (xs : List A) (i : ℕ) → a ≡ option_copied o → IfSome o (λ x. x.now ≡ get_or xs i x.now) → MatchOption o (length xs ≤ i) (λ x. (i < length xs) × Q x) → option_map f a ≡ slice_get (map f xs) i
 found f Q a None xs i e s m = ap (option_map f) (e ∙ sym (slice_get_past xs i m)) ∙ sym (slice_get-map f xs i)
 found f Q a (Some x) xs i e s m = ap (option_map f) (e ∙ ap Some s ∙ sym (slice_get-get_or xs i x.now m.0)) ∙ sym (slice_get-map f xs i)
 
--- j is the judgement of a variable at k with the node x
-abbrev pub Placed : Env → List Node → ℕ → Node → Result Thing Refusal → Type 0
-Placed Γ ns k (Name n) j = j ≡ look Γ n stands
-Placed Γ ns k (Element l i r) j = (v : Variable) × (e : Expr 5) × (l < k) × (r < k) × IsVariable v ns l × IsExpr e ns r × (j ≡ judge_subscript (judge_variable Γ v) (front_variable v) (judge Γ e) (spot e))
-Placed Γ ns k (Component l n) j = (v : Variable) × (l < k) × IsVariable v ns l × (j ≡ judge_select Γ (judge_variable Γ v) (front_variable v) n)
-Placed Γ ns k _ j = ⊥
+-- how the variable v at k with the node x is judged by what it is without its last layer
+abbrev pub Placed : Env → List Node → ℕ → Node → Variable → Type 0
+Placed Γ ns k (Name n) v = v ≡ name n
+Placed Γ ns k (Element l i r) v = (e : Expr 5) × (r < k) × IsExpr e ns r × (judge_variable Γ v ≡ judge_subscript (judge_variable Γ (stripped v)) (front_variable v) (judge Γ e) (spot e))
+Placed Γ ns k (Component l n) v = judge_variable Γ v ≡ judge_select Γ (judge_variable Γ (stripped v)) (front_variable v) n
+Placed Γ ns k _ v = ⊥
 
 -- j is the judgement of an expression at k with the node x
 abbrev pub Judged : Env → List Node → ℕ → Node → Result Thing Refusal → Type 0
@@ -54,13 +53,13 @@ module _ (Γ : Env) (ns : List Node) (k : ℕ) where
   moved : (x y : Node) (j : Result Thing Refusal) → At ns k x → At ns k y → Judged Γ ns k x j → Judged Γ ns k y j
   moved x y j a b h = subst (λ (z : Node). Judged Γ ns k z j) (sym a ∙ b) h
 
-  moved_place : (x y : Node) (j : Result Thing Refusal) → At ns k x → At ns k y → Placed Γ ns k x j → Placed Γ ns k y j
-  moved_place x y j a b h = subst (λ (z : Node). Placed Γ ns k z j) (sym a ∙ b) h
+  moved_place : (x y : Node) (v : Variable) → At ns k x → At ns k y → Placed Γ ns k x v → Placed Γ ns k y v
+  moved_place x y v a b h = subst (λ (z : Node). Placed Γ ns k z v) (sym a ∙ b) h
 
-  pub placed : (v : Variable) (x : Node) → At ns k x → IsVariable v ns k → Placed Γ ns k x (judge_variable Γ v)
+  pub placed : (v : Variable) (x : Node) → At ns k x → IsVariable v ns k → Placed Γ ns k x v
   placed (name n) x at is = moved_place _ x _ is at refl
-  placed (element v i e) x at is = moved_place _ x _ is.4 at (v, e, is.2, is.3, is.5, is.6, refl)
-  placed (component v n) x at is = moved_place _ x _ is.2 at (v, is.1, is.3, refl)
+  placed (element v i e) x at is = moved_place _ x _ is.4 at (e, is.3, is.6, refl)
+  placed (component v n) x at is = moved_place _ x _ is.2 at refl
 
   judged_primary : (p : Primary) (x : Node) → At ns k x → IsPrimary p ns k → Judged Γ ns k x (judge_primary Γ p)
   judged_primary (integer i) x at is = moved _ x _ is at refl
@@ -95,24 +94,16 @@ module _ (Γ : Env) (ns : List Node) (k : ℕ) where
   left_over (Component l n) j h d m a t f g p s = h
   left_over _ j h d m a t f g p s = absurd h
 
-  pub left_over_place : (x : Node) (j : Result Thing Refusal) → Placed Γ ns k x j → ((n : ℕ) → x ≡ Name n → ⊥) → ((l i r : ℕ) → x ≡ Element l i r → ⊥) → ((l n : ℕ) → x ≡ Component l n → ⊥) → ⊥
-  left_over_place (Name n) j h a b c = a n refl
-  left_over_place (Element l i r) j h a b c = b l i r refl
-  left_over_place (Component l n) j h a b c = c l n refl
-  left_over_place _ j h a b c = h
+  pub left_over_place : (x : Node) (v : Variable) → Placed Γ ns k x v → ((l i r : ℕ) → x ≡ Element l i r → ⊥) → ((l n : ℕ) → x ≡ Component l n → ⊥) → (n : ℕ) × (v ≡ name n)
+  left_over_place (Name n) v h b c = (n, h)
+  left_over_place (Element l i r) v h b c = absurd (b l i r refl)
+  left_over_place (Component l n) v h b c = absurd (c l n refl)
+  left_over_place _ v h b c = absurd h
 
-  -- a list and one more
-  pub listed : (es : Exprs) (l r : ℕ) → At ns k (Also l r) → IsExprs es ns k → (fs : Exprs) × (e : Expr 5) × IsExprs fs ns l × IsExpr e ns r × (count es ≡ suc (count fs)) × ((ms : List Mode) → judge_args Γ ms es ≡ then (judge_args Γ ms fs) (λ u. pass (judge Γ e) (spot e) (slice_get ms (count fs))))
-  listed (first e) l r at is = absurd (judged e _ at is)
-  listed (comma es e) l r at is =
-      let p : is.0 ≡ l = cc (at, is.4) in
-      let q : is.1 ≡ r = cc (at, is.4) in
-      (es, e, subst (λ (i : ℕ). IsExprs es ns i) p is.5, subst (λ (i : ℕ). IsExpr e ns i) q is.6, refl, λ ms. refl)
-
-  -- an expression alone
-  pub alone : (ms : List Mode) (P : ℕ → Result (Unit {0}) Refusal → Type 0) (es : Exprs) → ((l r : ℕ) → At ns k (Also l r) → l < k → r < k → ⊥) → ((e : Expr 5) → IsExpr e ns k → P 1 (pass (judge Γ e) (spot e) (slice_get ms 0))) → IsExprs es ns k → P (count es) (judge_args Γ ms es)
-  alone ms P (first e) low h is = h e is
-  alone ms P (comma es e) low h is = absurd (low is.0 is.1 is.4 is.2 is.3)
+-- the expressions of a call are the entries of their list
+pub as_many : (es : Exprs) → length (of_exprs es) ≡ count es
+as_many (first e) = refl
+as_many (comma es e) = ap suc (as_many es)
 
 -- what stands before brackets: a name, and anything else
 module _ (Γ : Env) (ns : List Node) (k : ℕ) (j : Result Thing Refusal) (z : ℕ) where
@@ -127,3 +118,14 @@ module _ (Γ : Env) (ns : List Node) (k : ℕ) (j : Result Thing Refusal) (z : �
   unnamed (name n) other is = absurd (other n is)
   unnamed (element v i e) other is = refl
   unnamed (component v n) other is = refl
+
+-- a variable of which a part is wrong
+module _ (Γ : Env) where
+  fails_stripped : (v : Variable) (f : Refusal) → judge_variable Γ (stripped v) ≡ Err f → judge_variable Γ v ≡ Err f
+  fails_stripped (name n) f h = h
+  fails_stripped (element v i e) f h = stops _ _ f (stops _ _ f h)
+  fails_stripped (component v n) f h = stops _ _ f (stops _ _ f h)
+
+  pub fails : (v : Variable) (d : ℕ) (f : Refusal) → judge_variable Γ (layer v d) ≡ Err f → judge_variable Γ v ≡ Err f
+  fails v zero f h = h
+  fails v (suc d) f h = fails v d f (fails_stripped (layer v d) f h)

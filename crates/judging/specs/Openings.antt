@@ -1,5 +1,6 @@
--- How a node's form begins: with a form that stands left in it, or with an item. Assumes nothing.
-use Rattle.std.specs.Prelude.{ℕ, Some, None, Option}
+-- How a node's form begins: with a form that stands left in it, or with an item; and the layers of a variable. Assumes nothing.
+use Rattle.std.specs.Prelude.{ℕ, zero, suc, Some, None, Option}
+use Rattle.grammar.specs.Trees.{Variable, name, element, component}
 use Rattle.nodes.specs.declared.Node.{Node}
 use Rattle.nodes.specs.declared.Node.TheVariants.{Integer, Text, Name, Element, Component, Call, CallOn, Paren, Monadic, Dyadic}
 
@@ -18,3 +19,18 @@ item_of (CallOn n i m) = n
 item_of (Paren i r) = i
 item_of (Monadic o i r) = i
 item_of _ = 0
+
+-- the subscripts and selectors of a variable; the variable without its last one, and without its last d
+abbrev pub layers : Variable → ℕ
+layers (name n) = 0
+layers (element v i e) = suc (layers v)
+layers (component v n) = suc (layers v)
+
+abbrev pub stripped : Variable → Variable
+stripped (name n) = name n
+stripped (element v i e) = v
+stripped (component v n) = v
+
+abbrev pub layer : Variable → ℕ → Variable
+layer v zero = v
+layer v (suc d) = stripped (layer v d)

@@ -1,9 +1,9 @@
 //! The first item of a form, and the item at which its misfit is told.
-ghost use Rattle.std.specs.Prelude.{◌≡◌, ℕ};
+ghost use Rattle.std.specs.Prelude.{◌≡◌, ℕ, ◌≤◌};
 ghost use Rattle.grammar.specs.Trees.{Expr, Variable};
 ghost use Rattle.nodes.specs.Nodes.{IsExpr, IsVariable};
 ghost use Rattle.statics.specs.Fronts.{front as front_of, front_variable, spot as spot_of};
-ghost use Rattle.judging.specs.Openings.{left_of, item_of};
+ghost use Rattle.judging.specs.Openings.{left_of, item_of, layers as layers_of, stripped, layer as layer_of};
 
 use nodes::{Node, node_at};
 
@@ -60,4 +60,44 @@ pub fn spot(nodes: &[Node], k: usize) -> usize
             _ => return front(nodes, at),
         }
     }
+}
+
+/// How many subscripts and selectors stand one behind the other in a variable.
+pub fn layers(nodes: &[Node], k: usize) -> usize
+    ensures { (v : Variable) → IsVariable v nodes.now k → result ≡ layers_of v }
+{
+    let mut at = k;
+    let mut count = 0;
+    loop {
+        match left(node_at(nodes, at)) {
+            Some(left) if left < at => {
+                at = left;
+                count += 1;
+            }
+            _ => return count,
+        }
+    }
+}
+
+/// A variable without its last subscript or selector; a name as it is.
+fn strip(nodes: &[Node], k: usize) -> usize
+    ensures stripped { (v : Variable) → IsVariable v nodes.now k → IsVariable (stripped v) nodes.now result }
+    ensures further { result ≤ k }
+{
+    match left(node_at(nodes, k)) {
+        Some(left) if left < k => left,
+        _ => k,
+    }
+}
+
+/// A variable without its last so many subscripts and selectors.
+pub fn layer(nodes: &[Node], k: usize, depth: usize) -> usize
+    ensures layer { (v : Variable) → IsVariable v nodes.now k → IsVariable (layer_of v depth) nodes.now result }
+    ensures further { result ≤ k }
+{
+    let mut at = k;
+    for _ in 0..depth {
+        at = strip(nodes, at);
+    }
+    at
 }

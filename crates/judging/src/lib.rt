@@ -6,21 +6,26 @@ pub mod operators;
 
 ghost use Rattle.grammar.specs.declared.Symbol.{Symbol};
 ghost use Rattle.nodes.specs.declared.Node.TheVariants.{Dyadic as DyadicNode, Monadic as MonadicNode};
-ghost use Rattle.std.specs.Prelude.{◌≡◌, ℕ, ◌+◌, ◌<◌, ◌≤◌, ◌^◌, IfOk, cond, length, map, None, Ok, Err, MatchResult, ok_or, option_map, ◌==◌};
-ghost use Rattle.grammar.specs.Trees.{Expr, Exprs, Variable};
+ghost use Rattle.std.specs.Prelude.{◌≡◌, ℕ, ◌+◌, ◌<◌, ◌≤◌, ◌^◌, IfOk, cond, length, map, None, Ok, Err, Result, MatchResult, ok_or, option_map, ◌==◌};
+ghost use Rattle.grammar.specs.Trees.{Expr, Exprs, Variable, name as a_name};
 ghost use Rattle.nodes.specs.Nodes.{At, IsExpr, IsExprs, IsVariable};
+ghost use Rattle.statics.specs.declared.Refusal.{Refusal as Refused};
 ghost use Rattle.statics.specs.declared.Refusal.TheVariants.{Misfit};
-ghost use Rattle.statics.specs.Fronts.{spot as spot_of};
+ghost use Rattle.statics.specs.Modes.{Mode as ModeOf, Thing as ThingOf};
+ghost use Rattle.statics.specs.Fronts.{spot as spot_of, front_variable};
 ghost use Rattle.statics.specs.Expressions.{count};
 ghost use Rattle.statics.specs.JudgeExpressions.{then, look, heads, yields, bring as bring_of, pass, judge as judge_of, judge_variable, judge_args, judge_subscript, judge_select, judge_head};
 ghost use Rattle.texts.specs.Facts.{facts};
 ghost use Rattle.modes.specs.Meanings.{mode_means, thing_means, need_means};
 ghost use Rattle.scopes.specs.Meanings.{signature_means, env_means, Answers};
+ghost use Rattle.judging.specs.Chains.{Apt, before};
+ghost use Rattle.judging.specs.Openings.{stripped};
 
-use fronts::{front, spot};
+use fronts::{front, layer, layers, spot};
+use lists::{how_many, parted};
 use modes::{Base, Element, Mode, Need, Plain, Thing};
 use nodes::{Node, node_at};
-use operators::{argument, figure, operand, outcome, result};
+use operators::{BYTE, argument, behind, combined, figure, operand, outcome};
 use scopes::{Env, Head, Signature};
 use statics::Refusal;
 
@@ -52,7 +57,8 @@ pub fn passed(env: Env<'_>, nodes: &[Node], wanted: Option<Mode>, k: usize) -> R
     Ok(())
 }
 
-/// The expressions of a call, and how many they are.
+/// The expressions of a call, and how many they are. They are judged from the last to the first, so that a long list takes no more of the stack
+/// than a short one; `rest` is the first that is wrong further right.
 #[cycle(expressions)]
 pub fn arguments(
     env: Env<'_>,
@@ -64,17 +70,16 @@ pub fn arguments(
     ensures few { IfOk result (λ n. n ≤ list + 1) }
     ensures judged { (es : Exprs) → IsExprs es nodes.now list → MatchResult result (λ n. (n ≡ count es) × (judge_args (env_means env.entry) (map (mode_means (facts env.entry.text)) modes.now) es ≡ Ok tt)) (λ f. judge_args (env_means env.entry) (map (mode_means (facts env.entry.text)) modes.now) es ≡ Err f) }
 {
-    match node_at(nodes, list) {
-        Node::Also(front, last) if front < list && last < list => {
-            let before = arguments(env, nodes, modes, front)?;
-            passed(env, nodes, modes.get(before).copied(), last)?;
-            Ok(before + 1)
-        }
-        _ => {
-            passed(env, nodes, modes.first().copied(), list)?;
-            Ok(1)
-        }
+    let count = how_many(nodes, list);
+    let mut before = count;
+    let mut rest = Ok(count);
+    let mut at = list;
+    while let Some((front, last)) = parted(nodes, at) {
+        before = before.saturating_sub(1);
+        rest = passed(env, nodes, modes.get(before).copied(), last).and(rest);
+        at = front;
     }
+    passed(env, nodes, modes.first().copied(), at).and(rest)
 }
 
 /// What a call with so many expressions stands for: a misfit where these are not as many as the parameters, or it gives nothing.
@@ -113,23 +118,37 @@ fn selected(env: Env<'_>, base: Thing, front: usize, item: usize) -> Result<Thin
     }
 }
 
-/// What a variable stands for.
+/// A variable whose first item is `name`, and of which what stands before its last subscript or selector stands for `base`.
+#[cycle(expressions)]
+fn layered(
+    env: Env<'_>,
+    nodes: &[Node],
+    base: Thing,
+    name: usize,
+    k: usize,
+) -> Result<Thing, Refusal>
+    ensures { (v : Variable) → IsVariable v nodes.now k → ((n : ℕ) → v ≡ a_name n → ⊥) → name ≡ front_variable v → judge_variable (env_means env.entry) (stripped v) ≡ Ok (thing_means (facts env.entry.text) base) → Answers (thing_means (facts env.entry.text)) result (judge_variable (env_means env.entry) v) }
+{
+    match node_at(nodes, k) {
+        Node::Element(_, _, index) if index < k => subscripted(env, nodes, base, name, index),
+        Node::Component(_, item) => selected(env, base, name, item),
+        _ => Err(Refusal::Misfit(front(nodes, k))),
+    }
+}
+
+/// What a variable stands for. It is judged from its name outward, layer by layer, so that a long one takes no more of the stack than a short one.
 #[cycle(expressions)]
 pub fn variable(env: Env<'_>, nodes: &[Node], k: usize) -> Result<Thing, Refusal>
     ensures { (v : Variable) → IsVariable v nodes.now k → Answers (thing_means (facts env.entry.text)) result (judge_variable (env_means env.entry) v) }
 {
-    match node_at(nodes, k) {
-        Node::Name(item) => env.stands(item),
-        Node::Element(base, _, index) if base < k && index < k => {
-            let thing = variable(env, nodes, base)?;
-            subscripted(env, nodes, thing, front(nodes, base), index)
-        }
-        Node::Component(base, item) if base < k => {
-            let thing = variable(env, nodes, base)?;
-            selected(env, thing, front(nodes, base), item)
-        }
-        _ => Err(Refusal::Misfit(front(nodes, k))),
+    let name = front(nodes, k);
+    let mut thing = env.stands(name)?;
+    let mut depth = layers(nodes, k);
+    while depth > 0 {
+        depth -= 1;
+        thing = layered(env, nodes, thing, name, layer(nodes, k, depth))?;
     }
+    Ok(thing)
 }
 
 /// A name with one expression in brackets: an element or a call, by what the name is.
@@ -151,22 +170,75 @@ fn headed(env: Env<'_>, nodes: &[Node], name: usize, index: usize) -> Result<Thi
     }
 }
 
-/// What an expression stands for. Only what chains of operators need is done here, since each of them takes a level of the stack.
+/// What an expression stands for.
 #[cycle(expressions)]
 pub fn judge(env: Env<'_>, nodes: &[Node], k: usize) -> Result<Thing, Refusal>
     ensures { (n : ℕ) (e : Expr n) → IsExpr e nodes.now k → Answers (thing_means (facts env.entry.text)) result (judge_of (env_means env.entry) e) }
 {
     match node_at(nodes, k) {
         Node::Dyadic(operator, _, left, right) if left < k && right < k => {
-            let a = brought(env, nodes, operand(operator), left)?;
-            let b = brought(env, nodes, operand(operator), right)?;
-            Ok(Thing::Value(result(operator, a, b)))
+            let need = operand(operator);
+            let whole = behind(operator, brought(env, nodes, need, right), Ok(BYTE));
+            operated(env, nodes, need, whole, left)
         }
         Node::Monadic(operator, _, inner) if inner < k => {
-            let _ = brought(env, nodes, argument(operator), inner)?;
-            Ok(Thing::Value(outcome(operator)))
+            let whole = Ok(Thing::Value(outcome(operator)));
+            signed(env, nodes, argument(operator), whole, inner)
         }
         _ => primary(env, nodes, k),
+    }
+}
+
+/// What stands before an operator, and with it the whole of a chain of operators: `whole` is what that gives if this is a BYTE, or the first that
+/// is wrong behind it. A chain is judged from its last operand to the first, so that a long one takes no more of the stack than a short one.
+#[cycle(expressions)]
+fn operated(
+    env: Env<'_>,
+    nodes: &[Node],
+    mut need: Need,
+    mut whole: Result<Mode, Refusal>,
+    k: usize,
+) -> Result<Thing, Refusal>
+    ensures { (n : ℕ) (e : Expr n) → IsExpr e nodes.now k → (w : Result ModeOf Refused) → Answers (mode_means (facts env.entry.text)) whole w → Apt (need_means (facts env.entry.text) need) w → Answers (thing_means (facts env.entry.text)) result (before (need_means (facts env.entry.text) need) (spot_of e) (judge_of (env_means env.entry) e) w) }
+{
+    let mut at = k;
+    loop {
+        match node_at(nodes, at) {
+            Node::Dyadic(operator, _, left, right) if left < at && right < at => {
+                need = operand(operator);
+                whole = behind(operator, brought(env, nodes, need, right), whole);
+                at = left;
+            }
+            _ => {
+                let mode = brought(env, nodes, need, at)?;
+                return Ok(Thing::Value(combined(mode, whole?)));
+            }
+        }
+    }
+}
+
+/// What stands behind a sign or another operator with one operand: `whole` is what that gives if this fits. A row of them is judged from the
+/// outermost inward, so that a long one takes no more of the stack than a short one.
+#[cycle(expressions)]
+fn signed(
+    env: Env<'_>,
+    nodes: &[Node],
+    mut need: Need,
+    mut whole: Result<Thing, Refusal>,
+    k: usize,
+) -> Result<Thing, Refusal>
+    ensures { (n : ℕ) (e : Expr n) → IsExpr e nodes.now k → (w : Result ThingOf Refused) → Answers (thing_means (facts env.entry.text)) whole w → Answers (thing_means (facts env.entry.text)) result (then (bring_of (need_means (facts env.entry.text) need) (spot_of e) (judge_of (env_means env.entry) e)) (λ m. w)) }
+{
+    let mut at = k;
+    loop {
+        match node_at(nodes, at) {
+            Node::Monadic(operator, item, inner) if inner < at => {
+                whole = bring(env, need, Thing::Value(outcome(operator)), item).and(whole);
+                need = argument(operator);
+                at = inner;
+            }
+            _ => return brought(env, nodes, need, at).and(whole),
+        }
     }
 }
 

@@ -1,20 +1,23 @@
 //! What operators take and give.
-ghost use Rattle.std.specs.Prelude.{◌≡◌, ℕ, cond, ◌&&◌};
-ghost use Rattle.grammar.specs.Trees.{Dyadic, Monadic, Comparator, spell, spell_monadic, spell_comparator};
+ghost use Rattle.std.specs.Prelude.{◌≡◌, ℕ, Ok, Result};
+ghost use Rattle.grammar.specs.Trees.{Dyadic, land, Monadic, Comparator, spell, spell_monadic, spell_comparator};
 ghost use Rattle.statics.specs.Scopes.{Text as Facts};
-ghost use Rattle.statics.specs.Modes.{BYTE as byte_mode, INT as int_mode};
-ghost use Rattle.statics.specs.Expressions.{operand as operand_of, result as result_of, argument as argument_of, outcome as outcome_of, compared as compared_of, figure as figure_of, is_byte};
-ghost use Rattle.statics.specs.JudgeExpressions.{agree as agree_of};
+ghost use Rattle.statics.specs.declared.Refusal.{Refusal as Refused};
+ghost use Rattle.statics.specs.Modes.{Mode as ModeOf, BYTE as byte_mode};
+ghost use Rattle.statics.specs.Expressions.{operand as operand_of, result as result_of, argument as argument_of, outcome as outcome_of, compared as compared_of, figure as figure_of};
+ghost use Rattle.statics.specs.JudgeExpressions.{then, agree as agree_of};
 ghost use Rattle.texts.specs.Facts.{facts};
 ghost use Rattle.modes.specs.Meanings.{mode_means, need_means, thing_means};
+ghost use Rattle.scopes.specs.Meanings.{Answers};
 
 use grammar::Symbol;
 use modes::{Mode, Need, Plain, Thing};
+use statics::Refusal;
 use texts::Text;
 
 const INT: Mode = Mode::Plain(Plain::Int);
 
-const BYTE: Mode = Mode::Plain(Plain::Byte);
+pub const BYTE: Mode = Mode::Plain(Plain::Byte);
 
 /// What a dyadic operator needs of its operands.
 pub fn operand(operator: Symbol) -> Need
@@ -37,13 +40,25 @@ pub fn result(operator: Symbol, a: Mode, b: Mode) -> Mode
 }
 
 /// What a logical operator gives on operands of these modes: BYTE on two BYTEs.
-fn combined(a: Mode, b: Mode) -> Mode
-    ensures { (x : Facts) → mode_means x result ≡ cond (is_byte (mode_means x a) && is_byte (mode_means x b)) byte_mode int_mode }
+pub fn combined(a: Mode, b: Mode) -> Mode
+    ensures { (x : Facts) → mode_means x result ≡ result_of land (mode_means x a) (mode_means x b) }
 {
     match (a, b) {
         (BYTE, BYTE) => BYTE,
         _ => INT,
     }
+}
+
+/// What an operator and all behind it give if what stands before it is a BYTE; or the first that is wrong there.
+pub fn behind(
+    operator: Symbol,
+    operand: Result<Mode, Refusal>,
+    rest: Result<Mode, Refusal>,
+) -> Result<Mode, Refusal>
+    ensures { (n : ℕ) (o : Dyadic n) → operator ≡ spell o → (x : Facts) (b w : Result ModeOf Refused) → Answers (mode_means x) operand b → Answers (mode_means x) rest w → Answers (mode_means x) result (then b (λ m. then w (λ k. Ok (result_of land (result_of o byte_mode m) k)))) }
+{
+    let mode = result(operator, BYTE, operand?);
+    Ok(combined(mode, rest?))
 }
 
 /// What a monadic operator needs of its operand.

@@ -1,4 +1,5 @@
-pub mod Listed
 pub mod Alone
-pub mod Standing
+pub mod Listed
 pub mod Loops
+pub mod Made
+pub mod Standing

@@ -1,11 +1,11 @@
 //! The entries of a list, from the last to the first: so the nodes of a list are linked.
 #![tactic(auto)]
 
-ghost use Rattle.std.specs.Prelude.{◌≡◌, []};
+ghost use Rattle.std.specs.Prelude.{◌≡◌, ℕ, ◌+◌, ◌<◌, ◌≤◌, ◌^◌, [], length, IfSome, MatchOption};
 ghost use Rattle.std.specs.Iterator.{YieldsFirst, item_count};
 ghost use Rattle.grammar.specs.Machine.{Repetition, Single, Whole};
-ghost use Rattle.grammar.specs.Trees.{Many, Condition, Destination, Arms, Locals, Fields};
-ghost use Rattle.nodes.specs.Nodes.{At, IsMany, IsComparison, IsCondition, IsDestination, IsArms, IsLocal, IsLocals, IsFields};
+ghost use Rattle.grammar.specs.Trees.{Many, one, more, Expr, Exprs, first, comma, Condition, Entry, Values, only, and, Destination, Arms, Locals, Fields};
+ghost use Rattle.nodes.specs.Nodes.{At, IsMany, IsExpr, IsExprs, IsComparison, IsCondition, IsEntry, IsValues, IsDestination, IsArms, IsLocal, IsLocals, IsFields};
 ghost use Rattle.nodes.specs.declared.Node.TheVariants.{Absent};
 ghost use Rattle.nodes.specs.Lists.{IsSingle, IsWhole};
 ghost use Rattle.lists.specs.Lists.{shape_of as shape_at, listed, left, Flat, Stand, of_each, of_whole, of_many, comparisons, of_arms, of_locals, of_fields};
@@ -77,5 +77,39 @@ impl Iterator for Backwards<'_> {
                 Some(last)
             }
         }
+    }
+}
+
+/// How many entries are left.
+fn count(list: Backwards<'_>) -> usize
+    requires { length (left list) < 2 ^ 64 }
+    ensures { result ≡ length (left list.entry) }
+{
+    list.count()
+}
+
+/// How many entries a list has.
+pub fn how_many(nodes: &[Node], list: usize) -> usize
+    requires small { list + 1 < 2 ^ 64 }
+    ensures counted { (r : Repetition) (t : Whole r) → Flat r → IsWhole r t nodes.now list → result ≡ length (of_whole r t) }
+    ensures few { result ≤ list + 1 }
+{
+    count(entries(nodes, list))
+}
+
+/// The list in front of the last entry of a list, and this entry; nothing where there is one entry alone.
+pub fn parted(nodes: &[Node], list: usize) -> Option<(usize, usize)>
+    ensures expressions { (es : Exprs) → IsExprs es nodes.now list → MatchOption result ((e : Expr 5) × IsExpr e nodes.now list × (es ≡ first e)) (λ p. (fs : Exprs) × (e : Expr 5) × IsExprs fs nodes.now p.0 × IsExpr e nodes.now p.1 × (es ≡ comma fs e)) }
+    ensures values { (vs : Values) → IsValues vs nodes.now list → MatchOption result ((e : Entry) × IsEntry e nodes.now list × (vs ≡ only e)) (λ p. (us : Values) × (e : Entry) × IsValues us nodes.now p.0 × IsEntry e nodes.now p.1 × (vs ≡ and us e)) }
+    ensures destinations { (ds : Many Destination) → IsMany IsDestination ds nodes.now list → MatchOption result ((d : Destination) × IsDestination d nodes.now list × (ds ≡ one d)) (λ p. (es : Many Destination) × (d : Destination) × IsMany IsDestination es nodes.now p.0 × IsDestination d nodes.now p.1 × (ds ≡ more es d)) }
+    ensures lower { IfSome result (λ p. (p.0 < list) × (p.1 < list)) }
+{
+    let Shape::More(front, last) = shape_of(list, node_at(nodes, list)) else {
+        return None;
+    };
+    if front < list && last < list {
+        Some((front, last))
+    } else {
+        None
     }
 }

@@ -1,2 +1,3 @@
 mod Seeking
 pub mod Parts
+pub mod Following

@@ -13,7 +13,8 @@ use frames::filling::put;
 use nodes::{Node, node_at};
 use texts::Text;
 
-/// The parts of a construct in which strings may be: the last one, and one in front of it.
+/// The parts of a construct in which strings may be: the last one, and one in front of it. An only one counts as one in front: it is gone into by a
+/// loop, so that a long row of signs takes no more of the stack than a short one.
 #[derive(Clone, Copy)]
 struct Parts {
     front: Option<usize>,
@@ -39,21 +40,21 @@ fn parts_of(node: Node) -> Parts
             front: Some(front),
             last: Some(last),
         },
-        Node::Monadic(_, _, last)
-        | Node::Paren(_, last)
-        | Node::CallOn(_, _, last)
-        | Node::Component(last, _)
-        | Node::Given(_, last)
-        | Node::Local(_, last)
-        | Node::Val(_, last)
-        | Node::Block(last)
-        | Node::InvokeOn(_, _, last)
-        | Node::Branch(last)
-        | Node::ReturnWith(_, _, last)
-        | Node::List(_, last)
-        | Node::Repeated(last, _, _) => Parts {
-            front: None,
-            last: Some(last),
+        Node::Monadic(_, _, only)
+        | Node::Paren(_, only)
+        | Node::CallOn(_, _, only)
+        | Node::Component(only, _)
+        | Node::Given(_, only)
+        | Node::Local(_, only)
+        | Node::Val(_, only)
+        | Node::Block(only)
+        | Node::InvokeOn(_, _, only)
+        | Node::Branch(only)
+        | Node::ReturnWith(_, _, only)
+        | Node::List(_, only)
+        | Node::Repeated(only, _, _) => Parts {
+            front: Some(only),
+            last: None,
         },
         _ => Parts {
             front: None,

@@ -1,3 +1,4 @@
 mod Parts
 mod Trees
 mod Judged
+mod Summed

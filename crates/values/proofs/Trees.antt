@@ -1,6 +1,6 @@
 -- Which tree stands at a node, by the node. Assumes nothing.
 use Rattle.std.proofs.Common.{◌≡◌, ℕ, ◌<◌, List, refl, subst}
-use Rattle.grammar.specs.Trees.{Value, constant, signed, minus_signed, identifier, string, empty_list, list, Values, only, and, Entry, once, repeated}
+use Rattle.grammar.specs.Trees.{Value, constant, signed, minus_signed, identifier, string, empty_list, list, Values, Entry, once, repeated}
 use Rattle.nodes.specs.declared.Node.{Node}
 use Rattle.nodes.specs.declared.Node.TheVariants as node
 use Rattle.nodes.specs.Nodes.{At, IsValue, IsValues, IsEntry}
@@ -58,16 +58,3 @@ module _ (ns : List Node) (k : ℕ) where
   pub once_there : (e : Entry) → ((r i n : ℕ) → r < k → At ns k (node.Repeated r i n) → ⊥) → IsEntry e ns k → (v : Value) × (e ≡ once v) × IsValue v ns k
   once_there (once v) other h = (v, refl, h)
   once_there (repeated v i n) other h = absurd (other h.0 i n h.1 h.2)
-
-  -- lists
-  pub also_there : (l r : ℕ) (vs : Values) → At ns k (node.Also l r) → IsValues vs ns k → (us : Values) × (e : Entry) × (vs ≡ and us e) × IsValues us ns l × IsEntry e ns r
-  also_there l r (and us e) a h =
-      let p : h.0 ≡ l = cc in
-      let q : h.1 ≡ r = cc in
-      (us, e, refl, subst (λ (x : ℕ). IsValues us ns x) p h.5, subst (λ (x : ℕ). IsEntry e ns x) q h.6)
-  also_there l r (only (repeated v j m)) a h = absurd cc
-  also_there l r (only (once v)) a h = absurd (no_value_there v (λ j b. cc) (λ t j b. cc) (λ t j b. cc) (λ m b. cc) (λ j b. cc) (λ j b. cc) (λ j x b. cc) h)
-
-  pub only_there : (vs : Values) → ((l r : ℕ) → l < k → r < k → At ns k (node.Also l r) → ⊥) → IsValues vs ns k → (e : Entry) × (vs ≡ only e) × IsEntry e ns k
-  only_there (only e) other h = (e, refl, h)
-  only_there (and vs e) other h = absurd (other h.0 h.1 h.2 h.3 h.4)

@@ -1,15 +1,15 @@
 //! Judging initial values in a data brick.
 #![tactic(auto)]
 
-ghost use Rattle.std.specs.Prelude.{◌≡◌, ◌+◌, ◌*◌, ◌<◌, ◌≤◌, ◌^◌, length, Ok, Err, IfOk, MatchResult};
+ghost use Rattle.std.specs.Prelude.{◌≡◌, ℕ, ◌+◌, ◌*◌, ◌<◌, ◌≤◌, ◌^◌, length, Ok, Err, IfOk, MatchResult};
 ghost use Rattle.grammar.specs.Trees.{Value, Values, Entry};
 ghost use Rattle.nodes.specs.Nodes.{IsValue, IsValues, IsEntry};
 ghost use Rattle.statics.specs.Scopes.{Text as Facts, record_modes};
-ghost use Rattle.statics.specs.Values.{front_value as front_of, how_many, inner as inner_of, times, total};
+ghost use Rattle.statics.specs.Values.{front_value as front_of, how_many as how_many_of, inner as inner_of, times, total};
 ghost use Rattle.statics.specs.Space.{scalars as scalars_of, element_scalars as scalars_of_element};
 ghost use Rattle.std.specs.List.{list_all};
 ghost use Rattle.statics.specs.declared.Refusal.TheVariants.{Misfit};
-ghost use Rattle.statics.specs.JudgeExpressions.{check as check_of};
+ghost use Rattle.statics.specs.JudgeExpressions.{then, check as check_of};
 ghost use Rattle.statics.specs.JudgeStatements.{is_plain};
 ghost use Rattle.statics.specs.JudgeModules.{takes_integer, takes_name, takes_string, takes_list, repeats, element_starts, valueless, judge_value, judge_values, judge_entry};
 ghost use Rattle.texts.specs.Facts.{facts};
@@ -17,6 +17,7 @@ ghost use Rattle.modes.specs.Meanings.{thing_means, element_means};
 ghost use Rattle.scopes.specs.Meanings.{env_means, Answers};
 ghost use Rattle.values.specs.Wants.{want_means};
 
+use lists::{how_many, parted};
 use modes::{Base, Element, Mode, Plain, Thing};
 use nodes::{Node, node_at};
 use scopes::Env;
@@ -232,24 +233,35 @@ pub fn value(env: Env<'_>, nodes: &[Node], want: Want, k: usize) -> Result<(), R
     }
 }
 
-/// The values of a list: how many they are, and how many with their repetitions.
+/// The places of the values behind a value, and its own; or the first of them that is wrong.
+fn added(times: Result<u16, Refusal>, places: Result<usize, Refusal>) -> Result<usize, Refusal>
+    requires { IfOk places (λ p. p < 2 ^ 63) }
+    ensures sum { result ≡ then times (λ n. then places (λ p. Ok (p + n))) }
+    ensures few { (b : ℕ) → IfOk places (λ p. p ≤ b) → IfOk result (λ s. s ≤ b + 65535) }
+{
+    let times = times?;
+    Ok(places? + usize::from(times))
+}
+
+/// The values of a list: how many they are, and how many with their repetitions. They are judged from the last to the first, so that a long list
+/// takes no more of the stack than a short one.
 #[cycle(values)]
 fn values(env: Env<'_>, nodes: &[Node], want: Want, list: usize) -> Result<(usize, usize), Refusal>
     requires few { length nodes.now < 2 ^ 32 }
-    ensures answers { (vs : Values) → IsValues vs nodes.now list → MatchResult result (λ r. (r.0 ≡ how_many vs) × (r.1 ≡ total (facts env.entry.text).value vs) × (judge_values (env_means env.entry) (want_means (facts env.entry.text) want) vs ≡ Ok tt)) (λ f. judge_values (env_means env.entry) (want_means (facts env.entry.text) want) vs ≡ Err f) }
-    ensures bounds { IfOk result (λ r. (r.0 ≤ list + 1) × (r.1 ≤ 65535 * (list + 1))) }
+    requires low { list < 2 ^ 32 }
+    ensures { (vs : Values) → IsValues vs nodes.now list → MatchResult result (λ r. (r.0 ≡ how_many_of vs) × (r.1 ≡ total (facts env.entry.text).value vs) × (judge_values (env_means env.entry) (want_means (facts env.entry.text) want) vs ≡ Ok tt)) (λ f. judge_values (env_means env.entry) (want_means (facts env.entry.text) want) vs ≡ Err f) }
 {
-    match node_at(nodes, list) {
-        Node::Also(front, last) if front < list && last < list => {
-            let (many, places) = values(env, nodes, want, front)?;
-            let times = entry(env, nodes, want, many, last)?;
-            Ok((many + 1, places + usize::from(times)))
-        }
-        _ => {
-            let times = entry(env, nodes, want, 0, list)?;
-            Ok((1, usize::from(times)))
-        }
+    let many = how_many(nodes, list);
+    let mut before = many;
+    let mut places = Ok(0);
+    let mut at = list;
+    while let Some((front, last)) = parted(nodes, at) {
+        before = before.saturating_sub(1);
+        places = added(entry(env, nodes, want, before, last), places);
+        at = front;
     }
+    let places = added(entry(env, nodes, want, 0, at), places)?;
+    Ok((many, places))
 }
 
 /// The value with the number `number` of a list: how often it stands there.

@@ -7,7 +7,7 @@ use Rattle.texts.specs.Facts.{facts}
 use Rattle.scopes.specs.Meanings.{env_means}
 use Rattle.frames.specs.Rooms.{Room}
 use Rattle.nodes.proofs.Results.{passed}
-use Rattle.judging.proofs.Standing.{answered}
+use Rattle.scopes.proofs.Following.{answered}
 use Rattle.inventory.proofs.Whole.{named_items, named_count}
 use Rattle.checker.proofs.Staged.{counted, in_module, spaced, twice_wrong, module_wrong, space_wrong, space_right}
 use Rattle.checker.proofs.stages.Goals as goal

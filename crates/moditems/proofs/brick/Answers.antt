@@ -5,7 +5,7 @@ use Rattle.statics.specs.JudgeExpressions.{judge_each}
 use Rattle.statics.specs.JudgeModules.{judge_brick, judge_data_dec}
 use Rattle.texts.specs.Facts.{facts}
 use Rattle.scopes.specs.Meanings.{Answers}
-use Rattle.judging.proofs.Standing.{answered}
+use Rattle.scopes.proofs.Following.{answered}
 use Rattle.frames.specs.Frames.{frame_means}
 use Rattle.frames.specs.Rooms.{Roomy}
 use Rattle.moditems.proofs.Items.{bricked}

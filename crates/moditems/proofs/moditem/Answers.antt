@@ -7,7 +7,7 @@ use Rattle.statics.specs.JudgeStatements.{judge_written}
 use Rattle.statics.specs.JudgeModules.{judge_fields, judge_moditem, judge_opt}
 use Rattle.texts.specs.Facts.{facts}
 use Rattle.scopes.specs.Meanings.{Answers}
-use Rattle.judging.proofs.Standing.{stops, goes, answered}
+use Rattle.scopes.proofs.Following.{stops, goes, answered}
 use Rattle.frames.specs.Frames.{frame_means}
 use Rattle.frames.specs.Rooms.{Roomy}
 use Rattle.frames.proofs.Counts.{components_fit}

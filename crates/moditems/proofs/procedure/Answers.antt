@@ -7,7 +7,7 @@ use Rattle.statics.specs.JudgeStatements.{judge_body, judge_written}
 use Rattle.statics.specs.JudgeModules.{judge_fields, judge_opt}
 use Rattle.texts.specs.Facts.{facts}
 use Rattle.scopes.specs.Meanings.{Answers}
-use Rattle.judging.proofs.Standing.{stops, goes, answered}
+use Rattle.scopes.proofs.Following.{stops, goes, answered}
 use Rattle.frames.specs.Rooms.{Room}
 use Rattle.blocks.proofs.Framing.{same_frame}
 use Rattle.moditems.proofs.Items.{fewer, headed, within, entered}

@@ -5,7 +5,7 @@ use Rattle.statics.specs.JudgeExpressions.{check}
 use Rattle.texts.specs.Facts.{facts}
 use Rattle.scopes.specs.Meanings.{env_means}
 use Rattle.nodes.proofs.Results.{passed}
-use Rattle.judging.proofs.Standing.{stops, goes}
+use Rattle.scopes.proofs.Following.{stops, goes}
 use Rattle.blocks.proofs.Comparing.{compares}
 use Rattle.blocks.proofs.conditions.comparison.Goals as goal
 

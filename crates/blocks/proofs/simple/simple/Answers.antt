@@ -1,7 +1,7 @@
 use Rattle.std.proofs.Common.{sym, ◌∙◌}
 use Rattle.scopes.specs.Meanings.{env_means}
 use Rattle.nodes.proofs.Results.{passed}
-use Rattle.judging.proofs.Standing.{stops, goes, answered}
+use Rattle.scopes.proofs.Following.{stops, goes, answered}
 use Rattle.blocks.proofs.Aiming.{assigned}
 use Rattle.blocks.proofs.simple.simple.Goals as goal
 

@@ -1,6 +1,6 @@
 use Rattle.std.proofs.Common.{sym}
 use Rattle.scopes.specs.Meanings.{env_means}
-use Rattle.judging.proofs.Standing.{answered}
+use Rattle.scopes.proofs.Following.{answered}
 use Rattle.blocks.proofs.Aiming.{valued}
 use Rattle.blocks.proofs.simple.target.Goals as goal
 

@@ -13,7 +13,7 @@ use Rattle.texts.specs.Facts.{facts}
 use Rattle.scopes.specs.Meanings.{Answers}
 use Rattle.lists.specs.Lists.{left, of_arms, of_sequence, Stand}
 use Rattle.lists.proofs.Loops.{Going, going_on, going_out}
-use Rattle.judging.proofs.Standing.{stops, goes, answered}
+use Rattle.scopes.proofs.Following.{stops, goes, answered}
 use Rattle.frames.specs.declared.Frame.{Frame}
 use Rattle.frames.specs.Frames.{frame_means}
 use Rattle.frames.specs.Rooms.{Room}

@@ -3,7 +3,7 @@ use Rattle.grammar.specs.Trees.{Amode, simple}
 use Rattle.nodes.specs.Nodes.{IsAmode}
 use Rattle.scopes.specs.Meanings.{env_means}
 use Rattle.statics.specs.JudgeStatements.{judge_element}
-use Rattle.judging.proofs.Standing.{answered}
+use Rattle.scopes.proofs.Following.{answered}
 use Rattle.blocks.proofs.Naming.{behind, names, nameless}
 use Rattle.blocks.proofs.written.written.Goals as goal
 

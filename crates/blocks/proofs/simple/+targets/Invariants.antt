@@ -1,4 +1,0 @@
-use Rattle.blocks.proofs.simple.+targets.Given as goal
-
-abbrev pub decreases-targets : goal.decreases-targets
-decreases-targets l = l.k
