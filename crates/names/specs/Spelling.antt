@@ -1,6 +1,6 @@
 -- How names are compared: upper and lower case are alike. Assumes nothing.
-use Rattle.std.specs.Prelude.{◌≡◌, ℕ, ◌-◌, ◌<◌, Bool, true, false, cond, ◌&&◌, List, [], ◌∷◌, ◌++◌, map, length, Some, None, Option, nat_le, slice_index_or}
-use Rattle.std.specs.Borrow.{Bor}
+use Rattle.std.specs.Prelude.{◌≡◌, ℕ, ◌-◌, ◌<◌, Bool, true, false, cond, ◌&&◌, List, [], map, length, Some, None, Option, nat_le, slice_index_or}
+use Rattle.names.specs.declared.Name.{Name}
 
 -- a letter as a capital; any other byte as it is
 abbrev pub upper : ℕ → ℕ
@@ -18,14 +18,24 @@ abbrev pub Says : Bool → Type 0 → Type 0
 Says true P = P
 Says false P = P → ⊥
 
--- the first of the names that is the one wanted, or none of them is
-abbrev pub First : List (List ℕ) → List ℕ → Option ℕ → Type 0
-First ns w None = (k : ℕ) → k < length ns → SameName (slice_index_or ns k []) w → ⊥
-First ns w (Some i) =
-    (i < length ns) × SameName (slice_index_or ns i []) w × ((k : ℕ) → k < i → SameName (slice_index_or ns k []) w → ⊥)
+-- A name in full: how that of what it belongs to is spelled, empty where it belongs to nothing, and how it is spelled itself.
+pub record FullName : Type 0 where
+  pub of : List ℕ
+  pub own : List ℕ
 
--- the first of the entries that has the name wanted, or none has it
-abbrev pub FirstOf : {X : Type 0} → (X → List ℕ) → List X → List ℕ → Option (Bor X) → Type 0
-FirstOf f xs w None = First (map f xs) w None
-FirstOf {X} f xs w (Some e) =
-    (us : List X) × (vs : List X) × (xs ≡ us ++ (e.now ∷ vs)) × First (map f us) w None × SameName (f e.now) w
+-- the name of what belongs to nothing
+abbrev pub alone : List ℕ → FullName
+alone w = record { of = []; own = w }
+
+abbrev pub full : Name → FullName
+full n = record { of = n.of.now; own = n.own.now }
+
+-- the two are one name, and belong to one
+abbrev pub SameFullName : FullName → FullName → Type 0
+SameFullName v w = SameName v.own w.own × SameName v.of w.of
+
+-- the last of the names that is the one wanted, or none of them is
+abbrev pub Last : List FullName → FullName → Option ℕ → Type 0
+Last ns w None = (k : ℕ) → k < length ns → SameFullName (slice_index_or ns k (alone [])) w → ⊥
+Last ns w (Some i) =
+    (i < length ns) × SameFullName (slice_index_or ns i (alone [])) w × ((k : ℕ) → i < k → k < length ns → SameFullName (slice_index_or ns k (alone [])) w → ⊥)

@@ -1,16 +1,32 @@
 //! Names are compared without regard to the case of their letters. One search by name serves every table whose
-//! entries have a name.
+//! entries have a name: keywords, declared names, components.
 #![tactic(auto)]
 
 ghost use Rattle.std.specs.Prelude.{◌≡◌, ℕ, List, map};
-ghost use Rattle.names.specs.Spelling.{Says, SameName, First, FirstOf};
+ghost use Rattle.names.specs.Spelling.{Says, SameName, FullName, alone, full, SameFullName, Last};
 
-/// What has a name: the bytes that spell it.
-pub trait Named {
-    ghost spelled: { Self → List ℕ };
+/// A name in full: the name of what it belongs to, which is empty where it belongs to nothing, and the name itself.
+#[derive(Clone, Copy)]
+pub struct Name<'n> {
+    pub of: &'n [u8],
+    pub own: &'n [u8],
+}
 
-    fn name(&self) -> &[u8]
-        ensures { result.now ≡ spelled self.now };
+impl<'n> Name<'n> {
+    /// The name of what belongs to nothing.
+    pub fn alone(own: &'n [u8]) -> Self
+        ensures { full result ≡ alone own.now }
+    {
+        Self { of: &[], own }
+    }
+}
+
+/// What has a name. The bytes that spell it stand in the entry itself, or in the context, as in a text.
+pub trait Named<C> {
+    ghost spelled: { C → Self → FullName };
+
+    fn name<'n>(&'n self, context: &'n C) -> Name<'n>
+        ensures { full result ≡ spelled context.now self.now };
 }
 
 /// Are the two spellings of one name?
@@ -21,16 +37,18 @@ pub fn same_name(a: &[u8], b: &[u8]) -> bool
     a.len() == b.len() && a.iter().zip(b).all(|(x, y)| x.eq_ignore_ascii_case(y))
 }
 
-/// The number of the first entry that has the name wanted.
-pub fn find<N: Named>(entries: &[N], wanted: &[u8]) -> Option<usize>
-    ensures { First (map N.Named.spelled entries.now) wanted.now result }
+/// Are the two one name, of one thing?
+fn same_full_name(a: Name, b: Name) -> bool
+    ensures { Says result (SameFullName (full a.entry) (full b.entry)) }
 {
-    entries.iter().position(|e| same_name(e.name(), wanted))
+    same_name(a.own, b.own) && same_name(a.of, b.of)
 }
 
-/// The first entry that has the name wanted.
-pub fn entry<'e, N: Named>(entries: &'e [N], wanted: &[u8]) -> Option<&'e N>
-    ensures { FirstOf N.Named.spelled entries.now wanted.now result }
+/// The number of the last entry that has the name wanted.
+pub fn last<C, N: Named<C>>(entries: &[N], context: &C, wanted: Name) -> Option<usize>
+    ensures { Last (map (N.Named.spelled context.now) entries.now) (full wanted.entry) result }
 {
-    entries.iter().find(|e| same_name(e.name(), wanted))
+    entries
+        .iter()
+        .rposition(|e| same_full_name(e.name(context), wanted))
 }

@@ -1,21 +1,21 @@
 //! The words: keywords and the bases of integers.
 ghost use Rattle.std.specs.Prelude.{◌≡◌};
-ghost use Rattle.names.specs.Spelling.{uppers};
+ghost use Rattle.names.specs.Spelling.{uppers, alone};
 ghost use Rattle.symbols.specs.See.{Spelt};
 ghost use Rattle.symbols.specs.Spellings.{base_word, spelling};
 
-use names::{Named, entry};
+use names::{Name, Named, last};
 use symbols::{Base, Keyword};
 
 /// A reserved word in capitals, and what it stands for.
 #[derive(Clone, Copy)]
 struct Reserved(&'static [u8], Keyword);
 
-impl Named for Reserved {
-    ghost spelled = { λ w. w.0.now };
+impl Named<()> for Reserved {
+    ghost spelled = { λ _ w. alone w.0.now };
 
-    fn name(&self) -> &[u8] {
-        self.0
+    fn name<'n>(&'n self, _: &'n ()) -> Name<'n> {
+        Name::alone(self.0)
     }
 }
 
@@ -86,8 +86,9 @@ const KEYWORDS: [Reserved; 57] = [
 pub fn keyword(name: &[u8]) -> Option<Keyword>
     ensures { Spelt spelling (uppers name.now) result }
 {
-    let Reserved(_, keyword) = entry(&KEYWORDS, name)?;
-    Some(*keyword)
+    let keywords = &KEYWORDS;
+    let i = last(keywords, &(), Name::alone(name))?;
+    Some(keywords[i].1)
 }
 
 /// The base that a name is the word of, if it is one.

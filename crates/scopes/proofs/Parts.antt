@@ -1,5 +1,5 @@
 -- The modes of the components of a record mode, from those of the code.
-use Rattle.std.proofs.Common.{◌≡◌, ℕ, Bool, true, false, cond, List, [], ◌∷◌, map, Option, option_map, slice_get, refl, ap, ◌∙◌, sym, Bor}
+use Rattle.std.proofs.Common.{◌≡◌, ℕ, Bool, true, false, cond, List, [], ◌∷◌, map, Option, option_map, slice_get, None, Some, refl, ap, ◌∙◌, sym, Bor}
 use Rattle.std.specs.List.{filter}
 use Rattle.std.proofs.lemmas.Option.{slice_get-map}
 use Rattle.statics.specs.Scopes as rules
@@ -7,7 +7,6 @@ use Rattle.statics.specs.Modes.{Word}
 use Rattle.modes.specs.Meanings.{mode_means}
 use Rattle.scopes.specs.Meanings.{component_means}
 use Rattle.scopes.specs.declared.Component.{Component}
-use Rattle.scopes.proofs.Seeking.{read}
 
 either : {X Y Z : Type 0} (g : Y → Z) (f : X → Y) (b : Bool) (x : X) (xs : List X) (ys : List Y) → map g ys ≡ map (λ y. g (f y)) xs → map g (cond b (f x ∷ ys) ys) ≡ map (λ y. g (f y)) (cond b (x ∷ xs) xs)
 either g f true x xs ys same = ap (λ l. g (f x) ∷ l) same
@@ -16,6 +15,11 @@ either g f false x xs ys same = same
 filter_mapped : {X Y Z : Type 0} (g : Y → Z) (f : X → Y) (t : Y → Bool) (xs : List X) → map g (filter t (map f xs)) ≡ map (λ x. g (f x)) (filter (λ x. t (f x)) xs)
 filter_mapped g f t [] = refl
 filter_mapped g f t (x ∷ xs) = either g f (t (f x)) x _ _ (filter_mapped g f t xs)
+
+-- h of what came as a reference
+read : {X Z : Type 0} (h : X → Z) (r : Option (Bor X)) → option_map (λ y. h y.now) r ≡ option_map h (option_map (λ y. y.now) r)
+read h None = refl
+read h (Some y) = refl
 
 -- whether a component is of the record mode r
 abbrev pub is_of : rules.Text → Word → Component → Bool

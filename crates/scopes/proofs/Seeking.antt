@@ -1,11 +1,18 @@
--- The last number below n that passes, by what is known of each number; and the last element that does, by its place.
-use Rattle.std.proofs.Common.{◌≡◌, ℕ, zero, suc, ◌<◌, ◌≤◌, Bool, true, false, cond, List, [], ◌∷◌, map, length, get_or, Some, None, Option, option_map, sym, refl, ap, ◌∙◌, arith, inl, inr, Bor}
-use Rattle.std.specs.Prelude.{take, reverse}
-use Rattle.std.specs.List.{find}
+-- What the search by name finds is what the rules seek: the last number below n that passes, by what is known of each number.
+use Rattle.std.proofs.Common.{◌≡◌, ℕ, zero, suc, ◌<◌, Bool, true, false, ◌&&◌, List, [], ◌∷◌, map, length, get_or, Some, None, Option, sym, refl, ap, ◌∙◌, subst, arith, inl, inr}
+use Rattle.std.specs.Prelude.{Decides}
 use Rattle.std.proofs.lemmas.Bool.{cond-true, cond-false, cases_lt}
-use Rattle.std.proofs.lemmas.List.{get_or-map, length-map, reverse-append, take_all}
-use Rattle.std.proofs.Math.Seq.{take-suc}
+use Rattle.std.proofs.lemmas.List.{get_or-map, length-map}
+use Rattle.std.proofs.lemmas.Slice.Eq.{bytes_eq-Decides}
+use Rattle.names.specs.Spelling.{uppers, Says, SameName, FullName, alone, SameFullName, Last}
+use Rattle.statics.specs.Scopes.{same_word, nobody, no_component}
 use Rattle.statics.specs.JudgeExpressions.{seek}
+use Rattle.texts.specs.declared.Text.{Text}
+use Rattle.texts.specs.Facts.{facts, spelling}
+use Rattle.modes.specs.declared.Mode.{Mode}
+use Rattle.scopes.specs.declared.Declared.{Declared}
+use Rattle.scopes.specs.declared.Component.{Component}
+use Rattle.scopes.specs.Meanings.{declared_means, component_means}
 
 seek_none : (n : ℕ) (t : ℕ → Bool) → ((k : ℕ) → k < n → t k ≡ false) → seek n t ≡ None
 seek_none zero t none = refl
@@ -19,59 +26,62 @@ seek_some (suc n) t i below here none =
       | inr more ↦ let e : n ≡ i = omega arith in cond-true _ _ _ (ap t e ∙ here) ∙ ap Some e
     ]
 
--- the same over a list, as the rules read it: by f of its elements
-pub seek_no_element : {X Y : Type 0} (f : X → Y) (e : Y) (t : Y → Bool) (xs : List X) (d : X) → ((k : ℕ) → k < length xs → t (f (get_or xs k d)) ≡ false)
-    → seek (length (map f xs)) (λ k. t (get_or (map f xs) k e)) ≡ None
-seek_no_element f e t xs d none =
-    ap (λ n. seek n (λ k. t (get_or (map f xs) k e))) (length-map xs f) ∙ seek_none (length xs) _ (λ k under. ap t (get_or-map f xs k d e under) ∙ none k under)
+told : {P : Type 0} (b : Bool) → Says b P → P → b ≡ true
+told true s p = refl
+told false s p = absurd (s p)
 
-pub seek_element : {X Y : Type 0} (f : X → Y) (e : Y) (t : Y → Bool) (xs : List X) (d : X) (i : ℕ) → i < length xs → t (f (get_or xs i d)) ≡ true
-    → ((k : ℕ) → i < k → k < length xs → t (f (get_or xs k d)) ≡ false)
-    → seek (length (map f xs)) (λ k. t (get_or (map f xs) k e)) ≡ Some i
-seek_element f e t xs d i below here none =
-    ap (λ n. seek n (λ k. t (get_or (map f xs) k e))) (length-map xs f)
-    ∙ seek_some (length xs) _ i below (ap t (get_or-map f xs i d e below) ∙ here) (λ k after under. ap t (get_or-map f xs k d e under) ∙ none k after under)
+denied : {P : Type 0} (b : Bool) → Says b P → (P → ⊥) → b ≡ false
+denied true s n = absurd (n s)
+denied false s n = refl
 
--- ---- what `find` gives from the back
+-- the rules read entries by f, and their test t says of each whether it has the name w
+module _ {X Y : Type 0} (s : X → FullName) (w : FullName) (f : X → Y) (e : Y) (t : Y → Bool) (tells : (x : X) → Says (t (f x)) (SameFullName (s x) w)) where
+  tells_at : (xs : List X) (k : ℕ) → k < length (map f xs) → Says (t (get_or (map f xs) k e)) (SameFullName (get_or (map s xs) k (alone [])) w)
+  tells_at [] k l = absurd (omega (arith, l))
+  tells_at (x ∷ xs) k l =
+      let b : k < length (x ∷ xs) = omega (arith, l, length-map (x ∷ xs) f) in
+      rw (get_or-map f (x ∷ xs) k x e b) (rw (get_or-map s (x ∷ xs) k x (alone []) b) (tells (get_or (x ∷ xs) k x)))
 
-module _ {X Y Z : Type 0} (h : Y → Z) (f : X → Y) (e : Y) (t : Y → Bool) (xs : List X) where
-  abbrev sought : ℕ → Option ℕ
-  sought n = seek n (λ k. t (get_or (map f xs) k e))
+  seek_last : (xs : List X) (r : Option ℕ) → Last (map s xs) w r → seek (length (map f xs)) (λ k. t (get_or (map f xs) k e)) ≡ r
+  seek_last xs None h =
+      seek_none _ _ (λ k l. denied _ (tells_at xs k l) (h k (omega (arith, l, length-map xs f, length-map xs s))))
+  seek_last xs (Some i) h =
+      let b : i < length (map f xs) = omega (arith, h.0, length-map xs f, length-map xs s) in
+      seek_some _ _ i b (told _ (tells_at xs i b) h.1)
+      (λ k a l. denied _ (tells_at xs k l) (h.2 k a (omega (arith, l, length-map xs f, length-map xs s))))
 
-  abbrev there : ℕ → Z
-  there i = h (get_or (map f xs) i e)
+-- ---- declared names and components
 
-  either : (b : Bool) (x : X) (n : ℕ) (o : Option X) (p : Option ℕ) → get_or (map f xs) n e ≡ f x → option_map (λ y. h (f y)) o ≡ option_map there p
-      → option_map (λ y. h (f y)) (cond b (Some x) o) ≡ option_map there (cond b (Some n) p)
-  either true x n o p same further = ap (λ y. Some (h y)) (sym same)
-  either false x n o p same further = further
+decided : {P : Type 0} (b : Bool) → Decides b P → Says b P
+decided true h = h.0 refl
+decided false h = λ p. let q = h.1 p in cc
 
-  below_end : (d : X) (n : ℕ) → n ≤ length xs → option_map (λ y. h (f y)) (find (λ x. t (f x)) (reverse (take n xs))) ≡ option_map there (sought n)
-  below_end d zero under = refl
-  below_end d (suc n) under =
-      let at : get_or (map f xs) n e ≡ f (get_or xs n d) = get_or-map f xs n d e (omega arith) in
-      ap (λ l. option_map (λ y. h (f y)) (find (λ x. t (f x)) (reverse l))) (take-suc xs n d (omega arith))
-      ∙ ap (λ l. option_map (λ y. h (f y)) (find (λ x. t (f x)) l)) (reverse-append (take n xs) (get_or xs n d ∷ []))
-      ∙ either (t (f (get_or xs n d))) (get_or xs n d) n (find (λ x. t (f x)) (reverse (take n xs))) (sought n) at (below_end d n (omega arith))
-      ∙ ap (λ v. option_map there (cond (t v) (Some n) (sought n))) (sym at)
+both : (P Q : Type 0) (a b : Bool) → Says a P → Says b Q → Says (a && b) (Q × P)
+both P Q true true h k = (k, h)
+both P Q true false h k = λ p. k p.0
+both P Q false b h k = λ p. h p.1
 
-  some_end : (d : X) → option_map (λ y. h (f y)) (find (λ x. t (f x)) (reverse xs)) ≡ option_map there (sought (length (map f xs)))
-  some_end d =
-      ap (λ l. option_map (λ y. h (f y)) (find (λ x. t (f x)) (reverse l))) (sym (take_all (length xs) xs (omega arith)))
-      ∙ below_end d (length xs) (omega arith)
-      ∙ ap (λ n. option_map there (sought n)) (sym (length-map xs f))
+one_word : (v w : List ℕ) → Says (same_word (uppers v) (uppers w)) (SameName v w)
+one_word v w = decided (same_word (uppers v) (uppers w)) (bytes_eq-Decides (uppers v) (uppers w))
 
-last_found : {X Y Z : Type 0} (h : Y → Z) (f : X → Y) (e : Y) (t : Y → Bool) (xs : List X)
-    → option_map (λ y. h (f y)) (find (λ x. t (f x)) (reverse xs)) ≡ option_map (λ i. h (get_or (map f xs) i e)) (seek (length (map f xs)) (λ k. t (get_or (map f xs) k e)))
-last_found h f e t [] = refl
-last_found h f e t (x ∷ xs) = some_end h f e t (x ∷ xs) x
+abbrev declared_name : Text → Declared → FullName
+declared_name t d = alone (spelling t d.item)
 
--- h of what came as a reference
-pub read : {X Z : Type 0} (h : X → Z) (r : Option (Bor X)) → option_map (λ y. h y.now) r ≡ option_map h (option_map (λ y. y.now) r)
-read h None = refl
-read h (Some y) = refl
+abbrev pub component_name : Text → Component → FullName
+component_name t c = record { of = spelling t c.owner; own = spelling t c.item }
 
--- h of the last element that passes, which came as a reference
-pub last_passing : {X Y Z : Type 0} (h : Y → Z) (f : X → Y) (e : Y) (t : Y → Bool) (xs : List X) (r : Option (Bor X)) → option_map (λ y. y.now) r ≡ find (λ x. t (f x)) (reverse xs)
-    → option_map (λ y. h (f y.now)) r ≡ option_map (λ i. h (get_or (map f xs) i e)) (seek (length (map f xs)) (λ k. t (get_or (map f xs) k e)))
-last_passing h f e t xs r is = read (λ x. h (f x)) r ∙ ap (option_map (λ x. h (f x))) is ∙ last_found h f e t xs
+pub last_declared : (t : Text) (ms : List Mode) (ds : List Declared) (n : ℕ) (w : FullName) (r : Option ℕ) → w ≡ alone (spelling t n) → Last (map (declared_name t) ds) w r
+    → seek (length (map (declared_means (facts t) ms) ds)) (λ k. same_word (get_or (map (declared_means (facts t) ms) ds) k nobody).word ((facts t).word n)) ≡ r
+last_declared t ms ds n w r is found =
+    let v = spelling t n in
+    seek_last (declared_name t) (alone v) (declared_means (facts t) ms) nobody (λ d. same_word d.word ((facts t).word n))
+    (λ d. both _ _ true (same_word (uppers (spelling t d.item)) (uppers v)) refl (one_word (spelling t d.item) v))
+    ds r (subst (λ u. Last (map (declared_name t) ds) u r) is found)
+
+pub last_component : (t : Text) (cs : List Component) (o n : ℕ) (u v : List ℕ) (r : Option ℕ) → u ≡ spelling t o → v ≡ spelling t n → Last (map (component_name t) cs) (record { of = u; own = v }) r
+    → seek (length (map (component_means (facts t)) cs)) (λ k. same_word (get_or (map (component_means (facts t)) cs) k no_component).owner ((facts t).word o) && same_word (get_or (map (component_means (facts t)) cs) k no_component).word ((facts t).word n)) ≡ r
+last_component t cs o n u v r of own found =
+    rw (sym of) (rw (sym own) (
+    seek_last (component_name t) (record { of = u; own = v }) (component_means (facts t)) no_component (λ d. same_word d.owner (uppers u) && same_word d.word (uppers v))
+    (λ c. both _ _ (same_word (uppers (spelling t c.owner)) (uppers u)) (same_word (uppers (spelling t c.item)) (uppers v)) (one_word (spelling t c.owner) u) (one_word (spelling t c.item) v))
+    cs r found))

@@ -4,11 +4,13 @@
 ghost use Rattle.std.specs.Prelude.{take, drop, ◌≡◌, ◌<◌, length, IfSome, option_map, slice_get};
 ghost use Rattle.statics.specs.Scopes.{record_modes};
 ghost use Rattle.statics.specs.JudgeExpressions.{look, called_at, stands, keeps, runs, heads, shapes, selects};
-ghost use Rattle.texts.specs.Facts.{facts};
+ghost use Rattle.names.specs.Spelling.{alone};
+ghost use Rattle.texts.specs.Facts.{facts, spelling};
 ghost use Rattle.modes.specs.Meanings.{mode_means, thing_means};
 ghost use Rattle.scopes.specs.Meanings.{class_means, class_called, signature_means, head_means, env_means, Answers};
 
 use modes::{Mode, Thing};
+use names::{Name, Named, last};
 use statics::Refusal;
 use texts::Text;
 
@@ -43,12 +45,31 @@ pub struct Declared {
     pub class: Class,
 }
 
+impl Named<Text<'_>> for Declared {
+    ghost spelled = { λ text d. alone (spelling text d.item) };
+
+    fn name<'n>(&'n self, text: &'n Text<'_>) -> Name<'n> {
+        Name::alone(text.spelling(self.item))
+    }
+}
+
 /// A component of the record mode that the item `owner` names.
 #[derive(Clone, Copy)]
 pub struct Component {
     pub owner: usize,
     pub item: usize,
     pub mode: Mode,
+}
+
+impl Named<Text<'_>> for Component {
+    ghost spelled = { λ text c. record { of = spelling text c.owner; own = spelling text c.item } };
+
+    fn name<'n>(&'n self, text: &'n Text<'_>) -> Name<'n> {
+        Name {
+            of: text.spelling(self.owner),
+            own: text.spelling(self.item),
+        }
+    }
 }
 
 /// What stands before brackets with one expression: a variable or a procedure.
@@ -76,10 +97,8 @@ impl<'w> Env<'w> {
         ensures called { result ≡ called_at (env_means self.entry) item }
         ensures within { IfSome result (λ i. i < length self.entry.names.now) }
     {
-        let i = self
-            .names
-            .iter()
-            .rposition(|d| self.text.same_word(d.item, item))?;
+        let wanted = Name::alone(self.text.spelling(item));
+        let i = last(self.names, &self.text, wanted)?;
         if i < self.ready { Some(i) } else { None }
     }
 
@@ -148,11 +167,12 @@ impl<'w> Env<'w> {
     pub fn selects(self, owner: usize, item: usize) -> Option<Thing>
         ensures { option_map (thing_means (facts self.entry.text)) result ≡ selects (env_means self.entry) ((facts self.entry.text).word owner) item }
     {
-        self.parts
-            .iter()
-            .rev()
-            .find(|c| self.text.same_word(c.owner, owner) && self.text.same_word(c.item, item))
-            .map(|c| Thing::Place(true, c.mode))
+        let wanted = Name {
+            of: self.text.spelling(owner),
+            own: self.text.spelling(item),
+        };
+        let i = last(self.parts, &self.text, wanted)?;
+        Some(Thing::Place(true, self.parts[i].mode))
     }
 
     /// How many components a record mode has.

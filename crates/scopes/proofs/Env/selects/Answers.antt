@@ -1,19 +1,21 @@
-use Rattle.std.proofs.Common.{rules, ◌≡◌, true, ◌&&◌, ◌∙◌, option_map}
-use borrow.Author.Tests.{tests}
-use Rattle.std.proofs.lemmas.Iterator.Search.{find_from_yields_List}
-use Rattle.std.proofs.lemmas.Iterator.Adapters.{YieldsList-from_rev_slice}
+use Rattle.std.proofs.Common.{length, ◌<◌, true, None, Some, refl, sym, ap, arith}
+use Rattle.std.proofs.lemmas.List.{get_or-map, length-map}
 use Rattle.statics.specs.Modes.{place}
-use Rattle.statics.specs.Scopes.{same_word, no_component}
-use Rattle.modes.specs.Meanings.{mode_means, thing_means}
+use Rattle.statics.specs.Scopes.{no_component}
 use Rattle.texts.specs.Facts.{facts}
 use Rattle.scopes.specs.Meanings.{component_means}
-use Rattle.scopes.proofs.Seeking.{last_passing}
+use Rattle.scopes.proofs.Seeking.{component_name, last_component}
 use Rattle.scopes.proofs.Env.selects.Goals as goal
+
+pub returns-in_err-i : goal.returns-in_err-i
+returns-in_err-i c =
+    let e = c.args.self in
+    rw (last_component e.text e.parts.now c.args.owner c.args.item _ _ None c.spelling.ensures c.spelling-2.ensures c.in_err-i.ensures) (rw c.from_residual.ensures refl)
 
 pub returns : goal.returns
 returns c =
-    let x = facts c.args.self.text in
-    let same : option_map (thing_means x) c.map.result ≡ option_map (λ y. place true (mode_means x y.now.mode)) c.find.result = search rules in
-    same
-    ∙ last_passing (λ d. place true d.mode) (component_means x) no_component (λ d. same_word d.owner (x.word c.args.owner) && same_word d.word (x.word c.args.item)) c.args.self.parts.now c.find.result
-    (find_from_yields_List _ _ _ c.find.result c.find.ensures.ran (YieldsList-from_rev_slice c.args.self.parts.now cc) (λ y b q k. search (rules, tests)))
+    let e = c.args.self in
+    let found = c.in_ok-i.ensures in
+    let under : c.in_ok-i.i < length e.parts.now = omega (arith, found.0, length-map e.parts.now (component_name e.text)) in
+    rw (last_component e.text e.parts.now c.args.owner c.args.item _ _ (Some c.in_ok-i.i) c.spelling.ensures c.spelling-2.ensures found)
+    (ap (λ d. Some (place true d.mode)) (sym (get_or-map (component_means (facts e.text)) e.parts.now c.in_ok-i.i _ no_component under)))
