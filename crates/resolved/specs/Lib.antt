@@ -1,0 +1,9 @@
+pub mod Forms
+pub mod Grounds
+pub mod Reads
+pub mod ResolveExpressions
+pub mod ResolveStatements
+pub mod Places
+pub mod ResolveModules
+pub mod Theorems
+pub mod Examples

@@ -1,0 +1,61 @@
+//! The resolved tree of a module: what each name means, how often each form is read, where a value is widened, which slot a local has, and where
+//! data and strings lie. It is a definition; the functions here carry its theorems.
+#![tactic(auto)]
+
+ghost use Rattle.resolved.specs.Theorems.{ExpressionsAgree, ConditionsAgree, StatementsAgree, ModulesAgree, OneTree, AcceptedTree, ReadsRight, EachPlaced, PlacesApart, PlacesBelow};
+ghost use Rattle.resolved.specs.Examples.{Examples};
+
+/// What an expression is resolved to stands for what the expression is judged to stand for; or both are refused alike.
+pub fn expressions_agree()
+    ensures { ExpressionsAgree }
+{}
+
+/// Conditions are resolved exactly where they are judged right, and else refused alike.
+pub fn conditions_agree()
+    ensures { ConditionsAgree }
+{}
+
+/// The same of the body of a procedure, a block or a loop.
+pub fn statements_agree()
+    ensures { StatementsAgree }
+{}
+
+/// The same of a whole module.
+pub fn modules_agree()
+    ensures { ModulesAgree }
+{}
+
+/// A module that is judged right has exactly one resolved tree, and any other has none.
+pub fn one_tree()
+    ensures { OneTree }
+{}
+
+/// A module that the static rules accept has exactly one resolved tree.
+pub fn accepted_tree()
+    ensures { AcceptedTree }
+{}
+
+/// What is brought to a need is read as often as the rules say, and widened only from BYTE to INT.
+pub fn reads_right()
+    ensures { ReadsRight }
+{}
+
+/// Each data variable and string has as many places as it is charged, in the order of the text.
+pub fn each_placed()
+    ensures { EachPlaced }
+{}
+
+/// No two of them overlap.
+pub fn places_apart()
+    ensures { PlacesApart }
+{}
+
+/// All places lie below 4,096 in a module that has not too many.
+pub fn places_below()
+    ensures { PlacesBelow }
+{}
+
+/// The resolved tree of a small module.
+pub fn examples()
+    ensures { Examples }
+{}
