@@ -2,7 +2,7 @@
 use Rattle.std.specs.Prelude.{ℕ, zero, suc, Bool, true, false, List, [], ◌∷◌, ◌++◌, map, length, Some, None, Ok, Option, Result}
 use Rattle.statics.specs.declared.Refusal.{Refusal}
 use Rattle.statics.specs.declared.Refusal.TheVariants.{Misfit, NoValue}
-use Rattle.grammar.specs.Trees.{Value, constant, signed, minus_signed, identifier, string, empty_list, list, Values, only, and, Entry, once, repeated, Many, Init, given, Dec, variables, arrays, structures, Brick, store, procedure, Moditem, blank, external_procs, external_store, own, entry, Module}
+use Rattle.grammar.specs.Trees.{Value, constant, signed, minus_signed, identifier, string, empty_list, list, Values, only, and, Entry, once, repeated, Many, Opt, Fields, Init, given, Dec, variables, arrays, structures, Body, Brick, store, procedure, Moditem, blank, external_procs, external_store, own, entry, Module}
 use Rattle.grammar.specs.Trees as tree
 use Rattle.statics.specs.Modes.{Plain, int, byte, Mode, plain, Element, simple, records}
 use Rattle.statics.specs.Scopes.{Text, Env, Component, record_modes}
@@ -87,22 +87,23 @@ resolve_data_dec G Γ (variables m is) = then (judge_written Γ m) (λ u. all_pa
 resolve_data_dec G Γ (arrays b n m is) = then (judge_element Γ m) (λ u. all_parts (resolve_data_item G Γ (several (Γ.text.value n) (element_of Γ.text m))) is)
 resolve_data_dec G Γ (structures n is) = then (judge_record_name Γ n) (λ u. all_parts (resolve_data_item G Γ (recorded (Γ.text.word n))) is)
 
--- Blocks beside each other share slots, so as many slots as the procedure has parameters and locals are enough.
+-- A procedure with its resolved body. Blocks beside each other share slots, so as many slots as it has parameters and locals are enough.
+abbrev pub whole : Text → Bool → ℕ → Opt Fields → Opt tree.Mode → Body → ℕ → form.Body → Procedure
+whole x ent n ps m b e c = record {
+  item = n;
+  entry = ent;
+  takes = map (λ f. f.mode) (parameters x ps);
+  gives = maybe_mode x m;
+  end = e;
+  slots = length (map (λ f. f.item) (parameters x ps) ++ blocks (block_names x) b);
+  body = c;
+}
+
 abbrev pub resolve_brick : Ground → Env → Bool → Brick → Result (List Part) Refusal
 resolve_brick G Γ ent (store n ds) = all_parts (resolve_data_dec G Γ) ds
 resolve_brick G Γ ent (procedure n i ps m b e) =
     then (judge_opt (judge_fields (outermost (in_procedure Γ ps m) b)) ps)
-    (λ u. then (judge_opt (judge_written Γ) m)
-    (λ v. then (resolve_body G (in_procedure Γ ps m) b)
-    (λ c. Ok (form.procedure (record {
-      item = n;
-      entry = ent;
-      takes = map (λ f. f.mode) (parameters Γ.text ps);
-      gives = maybe_mode Γ.text m;
-      end = e;
-      slots = length (map (λ f. f.item) (parameters Γ.text ps) ++ blocks (block_names Γ.text) b);
-      body = c;
-    }) ∷ []))))
+    (λ u. then (judge_opt (judge_written Γ) m) (λ v. then (resolve_body G (in_procedure Γ ps m) b) (λ c. Ok (form.procedure (whole Γ.text ent n ps m b e c) ∷ []))))
 
 -- of any other item nothing is kept
 abbrev pub resolve_moditem : Ground → Env → Moditem → Result (List Part) Refusal

@@ -1,19 +1,21 @@
 -- What is proved. Assumes nothing.
-use Rattle.std.specs.Prelude.{◌≡◌, ℕ, ◌+◌, ◌<◌, ◌≤◌, Bool, true, false, ◌⊎◌, List, map, Some, Ok, Result, slice_get}
+use Rattle.std.specs.Prelude.{◌≡◌, ℕ, ◌+◌, ◌<◌, ◌≤◌, Bool, true, false, ◌⊎◌, List, map, length, All, Some, Ok, Result, slice_get}
 use Rattle.statics.specs.declared.Refusal.{Refusal}
 use Rattle.grammar.specs.declared.Symbol.{Symbol}
 use Rattle.grammar.specs.Sentences.{Made}
 use Rattle.grammar.specs.Trees.{Expr, Condition, Body, Module}
 use Rattle.statics.specs.Modes.{Plain, Mode, plain, ref, INT, BYTE, Thing, place, Offers, Need, scalar, pointed, Fits}
 use Rattle.statics.specs.Laws.{Clean}
-use Rattle.statics.specs.Scopes.{Text, Env}
-use Rattle.statics.specs.Space.{Charge, charges, space_wrongs}
+use Rattle.statics.specs.Scopes.{Text, Env, Component}
+use Rattle.statics.specs.Written.{gather, items}
+use Rattle.statics.specs.Modules.{moditem_names, module_env}
+use Rattle.statics.specs.Space.{Charge, scalars, charges, space_wrongs}
 use Rattle.statics.specs.Stages.{Static}
 use Rattle.statics.specs.JudgeExpressions.{then, done, number_of, judge, judge_condition}
 use Rattle.statics.specs.JudgeStatements.{judge_body}
 use Rattle.statics.specs.JudgeModules.{judge_module}
-use Rattle.resolved.specs.Forms.{Span, Resolved}
-use Rattle.resolved.specs.Grounds.{Ground}
+use Rattle.resolved.specs.Forms.{Cell, Part, datum, procedure, Span, Resolved}
+use Rattle.resolved.specs.Grounds.{Ground, ground}
 use Rattle.resolved.specs.Reads.{reads, widens_for}
 use Rattle.resolved.specs.ResolveExpressions.{Known, resolve, resolve_condition}
 use Rattle.resolved.specs.ResolveStatements.{resolve_body}
@@ -74,3 +76,15 @@ PlacesApart = (x : Text) (m : Module) (i j : ℕ) (a b : Span) → i < j → sli
 -- Where there are not too many, all lie below 4,096.
 abbrev pub PlacesBelow : Type 0
 PlacesBelow = (x : Text) (m : Module) → Clean (space_wrongs x m) tt → (i : ℕ) (a : Span) → slice_get (places x m) i ≡ Some a → a.first + a.size ≤ 4096
+
+-- The names of the module come from the items that declare them, in the order in which the environment has them.
+abbrev pub GroundRight : Type 0
+GroundRight = (x : Text) (m : Module) → map (λ h. h.item) (ground x m) ≡ items (gather (moditem_names x) m)
+
+-- A data variable has as many places as it is charged, and with an initial value one cell for each.
+abbrev pub Filled : List Component → Part → Type 0
+Filled ps (procedure p) = Unit {0}
+Filled ps (datum d) = (length d.modes ≡ scalars ps d.shape) × ((cs : List Cell) → d.cells ≡ Some cs → length cs ≡ length d.modes)
+
+abbrev pub CellsRight : Type 0
+CellsRight = (x : Text) (m : Module) (T : Resolved) → Tree x m T → All (Filled (module_env x m).parts) T.parts

@@ -2,7 +2,7 @@
 //! data and strings lie. It is a definition; the functions here carry its theorems.
 #![tactic(auto)]
 
-ghost use Rattle.resolved.specs.Theorems.{ExpressionsAgree, ConditionsAgree, StatementsAgree, ModulesAgree, OneTree, AcceptedTree, ReadsRight, EachPlaced, PlacesApart, PlacesBelow};
+ghost use Rattle.resolved.specs.Theorems.{ExpressionsAgree, ConditionsAgree, StatementsAgree, ModulesAgree, OneTree, AcceptedTree, ReadsRight, EachPlaced, PlacesApart, PlacesBelow, GroundRight, CellsRight};
 ghost use Rattle.resolved.specs.Examples.{Examples};
 
 /// What an expression is resolved to stands for what the expression is judged to stand for; or both are refused alike.
@@ -55,7 +55,17 @@ pub fn places_below()
     ensures { PlacesBelow }
 {}
 
-/// The resolved tree of a small module.
+/// The names of the module come from the items that declare them, in the order of the environment.
+pub fn ground_right()
+    ensures { GroundRight }
+{}
+
+/// A data variable has as many places as it is charged, and with an initial value one cell for each.
+pub fn cells_right()
+    ensures { CellsRight }
+{}
+
+/// The resolved trees of two small modules, and the refusal of a third.
 pub fn examples()
     ensures { Examples }
 {}

@@ -1,0 +1,5 @@
+use Rattle.resolved.proofs.Cells.{tree_filled}
+use Rattle.resolved.proofs.cells_right.Goals as goal
+
+pub returns : goal.returns
+returns c = tree_filled

@@ -1,0 +1,5 @@
+use Rattle.resolved.proofs.Cells.{ground_items}
+use Rattle.resolved.proofs.ground_right.Goals as goal
+
+pub returns : goal.returns
+returns c = ground_items
