@@ -4,4 +4,4 @@ pub mod Statements
 pub mod Modules
 pub mod Reading
 pub mod Places
-pub mod Cells
+pub mod Stored

@@ -1,7 +1,7 @@
 -- Examples: the resolved tree of a module, each item of the text with its number. Assumes nothing.
-use Rattle.std.specs.Prelude.{◌≡◌, true, false, List, [], ◌∷◌, Some, None, Ok, Err, codes}
+use Rattle.std.specs.Prelude.{◌≡◌, ℕ, true, false, List, [], ◌∷◌, Some, None, Ok, Err, codes}
 use Rattle.statics.specs.declared.Refusal.TheVariants.{Misfit}
-use Rattle.grammar.specs.Symbols.{NAME, BYTE, DATA, ENDDATA, ENDPROC, INT, PROC, REF, RETURN, LEFT, RIGHT, PLUS, SEMI, BECOMES, MODE, ARRAY, EXT, LENGTH, INTEGER, COMMA, DOT}
+use Rattle.grammar.specs.Symbols.{NAME, BYTE, DATA, ENDDATA, ENDPROC, INT, PROC, REF, RETURN, LEFT, RIGHT, PLUS, SEMI, BECOMES, MODE, ARRAY, EXT, LENGTH, LAND, INTEGER, COMMA, DOT}
 use Rattle.grammar.specs.declared.Symbol.{Symbol}
 use Rattle.grammar.specs.Sentences.{Made}
 use Rattle.grammar.specs.Trees.{up, plus, one, more, given, no_locals, locals, identifier, variables, store, procedure, own, Module, Expr, term, Term, primary, size, integer, variable, name, constant, only, once, repeated, and, Moditem}
@@ -31,34 +31,37 @@ counter_main = record { item = 12; entry = true; takes = []; gives = Some Modes.
 abbrev pub counter_tree : Resolved
 counter_tree = record { parts = form.datum counter_datum ∷ form.procedure counter_main ∷ []; places = record { item = 4; first = 0; size = 1 } ∷ [] }
 
--- DATA D ; REF INT R := N ; INT N ; ENDDATA ; PROC P ( BYTE A ) INT ; INT L := A ; RETURN ( R + L ) ENDPROC
+-- DATA D ; REF INT R := N ; INT N ; ENDDATA ; PROC P ( BYTE A ) INT ; INT L := A ; RETURN ( R LAND A + L ) ENDPROC
 abbrev pub sum_text : Text
 sum_text =
     text_of
-    ([] ∷ codes "D" ∷ [] ∷ [] ∷ [] ∷ codes "R" ∷ [] ∷ codes "N" ∷ [] ∷ [] ∷ codes "N" ∷ [] ∷ [] ∷ [] ∷ [] ∷ codes "P" ∷ [] ∷ [] ∷ codes "A" ∷ [] ∷ [] ∷ [] ∷ [] ∷ codes "L" ∷ [] ∷ codes "A" ∷ [] ∷ [] ∷ [] ∷ codes "R" ∷ [] ∷ codes "L" ∷ [])
+    ([] ∷ codes "D" ∷ [] ∷ [] ∷ [] ∷ codes "R" ∷ [] ∷ codes "N" ∷ [] ∷ [] ∷ codes "N" ∷ [] ∷ [] ∷ [] ∷ [] ∷ codes "P" ∷ [] ∷ [] ∷ codes "A" ∷ [] ∷ [] ∷ [] ∷ [] ∷ codes "L" ∷ [] ∷ codes "A" ∷ [] ∷ [] ∷ [] ∷ codes "R" ∷ [] ∷ codes "A" ∷ [] ∷ codes "L" ∷ [])
     []
+
+abbrev pub named_term : ℕ → Expr 0
+named_term n = term (primary (variable (name n)))
 
 abbrev pub sum_module : Module
 sum_module =
     more (one (own (store 1 (more (more (one (variables tree.ref_int (one (given (one 5) (identifier 7))))) (variables tree.int (one (tree.plain 10)))) tree.nothing))))
-    (own (procedure 15 16 (tree.some (tree.field (tree.byte 17) 18)) (tree.some tree.int) (tree.body (locals no_locals (tree.local tree.int (one (given (one 23) (up (named 25)))))) (tree.single (tree.return_with 27 28 (tree.dyadic (up (named 29)) plus 30 (named 31))))) 33))
+    (own (procedure 15 16 (tree.some (tree.field (tree.byte 17) 18)) (tree.some tree.int) (tree.body (locals no_locals (tree.local tree.int (one (given (one 23) (up (named 25)))))) (tree.single (tree.return_with 27 28 (tree.dyadic (up (up (up (tree.dyadic (up (up (named_term 29))) tree.land 30 (up (named_term 31)))))) plus 32 (named 33))))) 35))
 
 abbrev pub sum_symbols : List Symbol
 sum_symbols =
-    DATA ∷ NAME ∷ SEMI ∷ REF ∷ INT ∷ NAME ∷ BECOMES ∷ NAME ∷ SEMI ∷ INT ∷ NAME ∷ SEMI ∷ ENDDATA ∷ SEMI ∷ PROC ∷ NAME ∷ LEFT ∷ BYTE ∷ NAME ∷ RIGHT ∷ INT ∷ SEMI ∷ INT ∷ NAME ∷ BECOMES ∷ NAME ∷ SEMI ∷ RETURN ∷ LEFT ∷ NAME ∷ PLUS ∷ NAME ∷ RIGHT ∷ ENDPROC ∷ []
+    DATA ∷ NAME ∷ SEMI ∷ REF ∷ INT ∷ NAME ∷ BECOMES ∷ NAME ∷ SEMI ∷ INT ∷ NAME ∷ SEMI ∷ ENDDATA ∷ SEMI ∷ PROC ∷ NAME ∷ LEFT ∷ BYTE ∷ NAME ∷ RIGHT ∷ INT ∷ SEMI ∷ INT ∷ NAME ∷ BECOMES ∷ NAME ∷ SEMI ∷ RETURN ∷ LEFT ∷ NAME ∷ LAND ∷ NAME ∷ PLUS ∷ NAME ∷ RIGHT ∷ ENDPROC ∷ []
 
--- the parameter has slot 0, the local slot 1; the reference is read, and then what it refers to
+-- the parameter has slot 0, the local slot 1; the reference is read, and then what it refers to; a BYTE beside it is widened
 abbrev pub sum_body : form.Body
 sum_body =
     form.body (record { first = 1; count = 1; mode = Modes.INT; start = Some (widened (read (form.local 0))) } ∷ [])
-    (form.single (form.return_with (dyadic plus 30 (read (read (stored 5))) (read (form.local 1)))))
+    (form.single (form.return_with (dyadic plus 32 (dyadic tree.land 30 (read (read (stored 5))) (widened (read (form.local 0)))) (read (form.local 1)))))
 
 abbrev pub sum_tree : Resolved
 sum_tree = record {
   parts =
       form.datum (record { item = 5; shape = simply (ref int); modes = ref int ∷ []; cells = Some (address 10 ∷ []) })
       ∷ form.datum (record { item = 10; shape = simply Modes.INT; modes = Modes.INT ∷ []; cells = None })
-      ∷ form.procedure (record { item = 15; entry = false; takes = Modes.BYTE ∷ []; gives = Some Modes.INT; end = 33; slots = 2; body = sum_body })
+      ∷ form.procedure (record { item = 15; entry = false; takes = Modes.BYTE ∷ []; gives = Some Modes.INT; end = 35; slots = 2; body = sum_body })
       ∷ [];
   places = record { item = 5; first = 0; size = 1 } ∷ record { item = 10; first = 1; size = 1 } ∷ [];
 }

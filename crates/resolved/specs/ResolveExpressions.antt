@@ -1,12 +1,12 @@
 -- The resolving of expressions and conditions: the judging, which also gives the form. Theorems says that it is right.
-use Rattle.std.specs.Prelude.{ℕ, suc, cond, ◌&&◌, List, length, take, true, Some, None, Ok, Option, Result, ok_or, option_map, option_and_then, ◌==◌, nat_lt, slice_get}
+use Rattle.std.specs.Prelude.{ℕ, suc, cond, not, ◌&&◌, List, length, take, true, Some, None, Ok, Option, Result, ok_or, option_map, option_and_then, ◌==◌, nat_lt, slice_get}
 use Rattle.statics.specs.declared.Refusal.{Refusal}
 use Rattle.statics.specs.declared.Refusal.TheVariants.{WrongName, Misfit}
 use Rattle.grammar.specs.Trees.{Expr, term, up, dyadic, Term, monadic, primary, Primary, integer, text, variable, call, call_on, paren, Variable, name, element, component, Exprs, first, comma, Comparison, compare, Condition, Many, one, more}
 use Rattle.statics.specs.Modes.{Word, int, byte, Mode, INT, Thing, value, place, Need, mode, elements, components, subscript, referred_record}
 use Rattle.statics.specs.Scopes.{Env, same_word, Class, Signature, Head, thing, signature, class_at, component_at, record_modes}
 use Rattle.statics.specs.Fronts.{front, spot, spot_term, front_variable}
-use Rattle.statics.specs.Expressions.{operand, result, argument, outcome, count, figure, string_thing, compared}
+use Rattle.statics.specs.Expressions.{is_byte, operand, result, argument, outcome, count, figure, string_thing, compared}
 use Rattle.statics.specs.JudgeExpressions.{then, check, fit, seek, called_at, stands, runs, heads, yields, agree}
 use Rattle.resolved.specs.Forms.{Callee, Form, Forms, Test, Tests}
 use Rattle.resolved.specs.Forms as form
@@ -27,6 +27,10 @@ bring_form n p r = then r (λ t. ok_or (option_map (with (brought_form n t.0 t.1
 -- brought to a mode
 abbrev pub bring_as : Mode → ℕ → Result Known Refusal → Result Form Refusal
 bring_as m p r = then (bring_form (mode m) p r) (λ k. Ok k.1)
+
+-- of two numbers one of which is INT, both are: beside an operand of mode k
+abbrev pub level : Mode × Form → Mode → Form
+level m k = cond (is_byte m.0 && not (is_byte k)) (form.widened m.1) m.1
 
 -- the name at n, picked by its class, and which of the names it is
 abbrev pub find : {A : Type 0} → Env → ℕ → (Class → Option A) → Result (A × ℕ) Refusal
@@ -79,7 +83,7 @@ abbrev mutual
   pub resolve : {n : ℕ} → Ground → Env → Expr n → Result Known Refusal
   resolve G Γ (term t) = resolve_term G Γ t
   resolve G Γ (up e) = resolve G Γ e
-  resolve G Γ (dyadic a o i b) = then (bring_form (operand o) (spot a) (resolve G Γ a)) (λ m. then (bring_form (operand o) (spot b) (resolve G Γ b)) (λ k. Ok (value (result o m.0 k.0), form.dyadic o i m.1 k.1)))
+  resolve G Γ (dyadic a o i b) = then (bring_form (operand o) (spot a) (resolve G Γ a)) (λ m. then (bring_form (operand o) (spot b) (resolve G Γ b)) (λ k. Ok (value (result o m.0 k.0), form.dyadic o i (level m k.0) (level k m.0))))
 
   pub resolve_term : Ground → Env → Term → Result Known Refusal
   resolve_term G Γ (monadic o i t) = then (bring_form (argument o) (spot_term t) (resolve_term G Γ t)) (λ m. Ok (value (outcome o), form.monadic o i m.1))
@@ -111,7 +115,7 @@ abbrev mutual
 abbrev pub resolve_comparison : Ground → Env → Comparison → Result Test Refusal
 resolve_comparison G Γ (compare a o b) =
     then (bring_form (compared o) (spot a) (resolve G Γ a))
-    (λ m. then (bring_form (compared o) (spot b) (resolve G Γ b)) (λ k. then (check (agree o m.0 k.0) (Misfit (front a))) (λ u. Ok (form.compare o m.1 k.1))))
+    (λ m. then (bring_form (compared o) (spot b) (resolve G Γ b)) (λ k. then (check (agree o m.0 k.0) (Misfit (front a))) (λ u. Ok (form.compare o (level m k.0) (level k m.0)))))
 
 abbrev pub resolve_each : {A B : Type 0} → (A → Result B Refusal) → Many A → Result (Many B) Refusal
 resolve_each f (one a) = then (f a) (λ b. Ok (one b))

@@ -1,4 +1,4 @@
-use Rattle.resolved.proofs.Cells.{tree_filled}
+use Rattle.resolved.proofs.Stored.{tree_filled}
 use Rattle.resolved.proofs.cells_right.Goals as goal
 
 pub returns : goal.returns

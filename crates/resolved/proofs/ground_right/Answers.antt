@@ -1,4 +1,4 @@
-use Rattle.resolved.proofs.Cells.{ground_items}
+use Rattle.resolved.proofs.Stored.{ground_items}
 use Rattle.resolved.proofs.ground_right.Goals as goal
 
 pub returns : goal.returns
