@@ -4,4 +4,8 @@ pub mod Statements
 pub mod Modules
 pub mod Reading
 pub mod Places
+pub mod Holding
 pub mod Stored
+pub mod Rooms
+pub mod Slotted
+pub mod Procedures

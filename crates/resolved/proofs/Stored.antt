@@ -1,12 +1,11 @@
 -- Where the names of a module come from; and a data variable has one cell for each of its places. Assumes nothing.
-use Rattle.std.proofs.Common.{◌≡◌, ℕ, zero, suc, ◌*◌, ◌<◌, ◌≤◌, Bool, true, false, List, [], ◌∷◌, ◌++◌, map, length, Some, None, slice_get, Ok, Err, Result, sym, refl, ap, ◌∙◌, subst, arith, length-append}
+use Rattle.std.proofs.Common.{◌≡◌, ℕ, zero, suc, ◌*◌, ◌<◌, ◌≤◌, Bool, true, false, List, [], ◌∷◌, ◌++◌, map, length, Some, None, slice_get, sym, refl, ap, ◌∙◌, subst, arith, length-append}
 use Rattle.std.specs.Prelude.{All, ◌==◌}
 use Rattle.std.proofs.Math.Nat.{suc-mul, add-mul}
 use Rattle.std.proofs.lemmas.List.{map-append}
-use Rattle.std.proofs.lemmas.List.Elements.{All-nil, All-cons, All-append}
+use Rattle.std.proofs.lemmas.List.Elements.{All-nil, All-cons}
 use Rattle.std.proofs.lemmas.Bool.{and_parts}
 use Rattle.std.proofs.lemmas.Bool.Decides.{Decides-eqb}
-use Rattle.statics.specs.declared.Refusal.{Refusal}
 use Rattle.grammar.specs.Trees.{Value, constant, signed, minus_signed, identifier, string, empty_list, list, Values, only, and, Entry, once, repeated, Many, one, more, Init, given, Dec, variables, arrays, structures, Brick, store, procedure, Moditem, blank, external_procs, external_store, own, entry, Module}
 use Rattle.grammar.specs.Trees as tree
 use Rattle.statics.specs.Modes.{Mode, Element, simple, records, Thing, BYTE}
@@ -15,17 +14,18 @@ use Rattle.statics.specs.Written.{mode_of, element_of, gather, site, items}
 use Rattle.statics.specs.Values.{Want, free, simply, several, recorded, inner, element_want, component_want, times, total, how_many}
 use Rattle.statics.specs.Modules.{names_of, in_procedure, outermost, moditem_names, module_env}
 use Rattle.statics.specs.Space.{element_scalars, scalars}
-use Rattle.statics.specs.JudgeExpressions.{then, check, keeps, same_element}
+use Rattle.statics.specs.JudgeExpressions.{keeps, same_element}
 use Rattle.statics.specs.JudgeStatements.{judge_written}
 use Rattle.statics.specs.JudgeModules.{takes_integer, takes_name, takes_string, takes_list, repeats, judge_opt, judge_fields, judge_moditem}
 use Rattle.statics.proofs.Fit.{same_element_decides}
 use Rattle.resolved.specs.Forms.{Cell, Part, Resolved, byte_of}
 use Rattle.resolved.specs.Forms as form
 use Rattle.resolved.specs.Grounds.{Ground, home, outside, moditem_homes, ground}
-use Rattle.resolved.specs.ResolveExpressions.{find, resolve_each}
+use Rattle.resolved.specs.ResolveExpressions.{find}
 use Rattle.resolved.specs.ResolveStatements.{resolve_body}
-use Rattle.resolved.specs.ResolveModules.{copies, element_modes, place_modes, bytes_of, string_cells, resolve_value, resolve_values, resolve_entry, datum, resolve_data_item, all_parts, resolve_data_dec, whole, resolve_brick, resolve_moditem, resolve_module}
+use Rattle.resolved.specs.ResolveModules.{copies, element_modes, place_modes, bytes_of, string_cells, resolve_value, resolve_values, resolve_entry, datum, resolve_data_item, resolve_data_dec, whole, resolve_brick, resolve_moditem, resolve_module}
 use Rattle.resolved.specs.Theorems.{Filled, Tree}
+use Rattle.resolved.proofs.Holding.{Of, holds, of_then, of_like, of_check, of_any, of_right, parts_hold}
 
 map_twice : {A B C : Type 0} (f : B → C) (g : A → B) (xs : List A) → map f (map g xs) ≡ map (λ a. f (g a)) xs
 map_twice f g [] = refl
@@ -41,31 +41,6 @@ moditem_items x it = map_twice (λ h. h.item) (λ s. home s.item (form.own s.ite
 
 pub ground_items : (x : Text) (m : Module) → map (λ h. h.item) (ground x m) ≡ items (gather (moditem_names x) m)
 ground_items x m = gathered (moditem_homes x) (moditem_names x) (λ h. h.item) (λ s. s.item) (moditem_items x) m
-
--- P holds of what is right
-data Of {A : Type 0} (P : A → Type 0) : Result A Refusal → Type 0 where
-  holds : {a : A} → P a → Of P (Ok a)
-  refused : {f : Refusal} → Of P (Err f)
-
-of_then : {A B : Type 0} {P : A → Type 0} {Q : B → Type 0} {r : Result A Refusal} {k : A → Result B Refusal} → Of P r → ((a : A) → P a → Of Q (k a)) → Of Q (then r k)
-of_then (holds {a} p) h = h a p
-of_then refused h = refused
-
-of_like : {A : Type 0} {P Q : A → Type 0} {r : Result A Refusal} → ((a : A) → P a → Q a) → Of P r → Of Q r
-of_like h (holds {a} p) = holds (h a p)
-of_like h refused = refused
-
-of_check : {B : Type 0} {Q : B → Type 0} (b : Bool) (f : Refusal) {k : Unit {0} → Result B Refusal} → ((u : Unit {0}) → b ≡ true → Of Q (k u)) → Of Q (then (check b f) k)
-of_check true f h = h tt refl
-of_check false f h = refused
-
-of_any : {A B : Type 0} {Q : B → Type 0} (r : Result A Refusal) {k : A → Result B Refusal} → ((a : A) → Of Q (k a)) → Of Q (then r k)
-of_any (Ok a) h = h a
-of_any (Err f) h = refused
-
-of_right : {A : Type 0} {Q : A → Type 0} {r : Result A Refusal} → Of Q r → (a : A) → r ≡ Ok a → Q a
-of_right {Q = Q} (holds {a = b} q) a e = subst Q (let p : b ≡ a = cc in p) q
-of_right refused a e = grind arith
 
 length-copies : {A : Type 0} (n : ℕ) (xs : List A) → length (copies n xs) ≡ n * length xs
 length-copies zero xs = omega arith
@@ -199,7 +174,7 @@ proper_counted ps (recorded r) n p h = h
 with_cells : (Γ : Env) (w : Want) (cs : List Cell) → Proper w → Counted Γ.parts w (length cs) → (n : ℕ) → Filled Γ.parts (datum Γ w (Some cs) n)
 with_cells Γ w cs p h n = (places_counted Γ.parts w, λ ds e. subst (λ l. length l ≡ length (place_modes Γ.parts w)) (let q : cs ≡ ds = cc in q) (proper_counted Γ.parts w (length cs) p h))
 
-all_made : (P : Part → Type 0) (f : ℕ → Part) → ((n : ℕ) → P (f n)) → (ns : List ℕ) → All P (map f ns)
+pub all_made : (P : Part → Type 0) (f : ℕ → Part) → ((n : ℕ) → P (f n)) → (ns : List ℕ) → All P (map f ns)
 all_made P f h [] = All-nil P
 all_made P f h (n ∷ ns) = All-cons P (f n) (map f ns) (h n) (all_made P f h ns)
 
@@ -207,21 +182,14 @@ item_filled : (G : Ground) (Γ : Env) (w : Want) (i : Init Value) → Proper w �
 item_filled G Γ w (tree.plain n) p = of_check _ _ (λ u e. holds (All-cons (Filled Γ.parts) (datum Γ w None n) [] (places_counted Γ.parts w, λ cs q. grind arith) (All-nil (Filled Γ.parts))))
 item_filled G Γ w (given ns v) p = of_then (value_cells G Γ w v) (λ cs h. holds (all_made (Filled Γ.parts) (datum Γ w (Some cs)) (with_cells Γ w cs p h) (names_of ns)))
 
-each_filled : {A : Type 0} {f : A → Result (List Part) Refusal} (P : Part → Type 0) → ((a : A) → Of (All P) (f a)) → (m : Many A) → Of (λ ps. All P (gather (λ p. p) ps)) (resolve_each f m)
-each_filled P h (one a) = of_then (h a) (λ b p. holds p)
-each_filled P h (more m a) = of_then (each_filled P h m) (λ bs p. of_then (h a) (λ b q. holds (All-append P (gather (λ l. l) bs) b p q)))
-
-parts_filled : {A : Type 0} {f : A → Result (List Part) Refusal} (P : Part → Type 0) → ((a : A) → Of (All P) (f a)) → (m : Many A) → Of (All P) (all_parts f m)
-parts_filled P h m = of_then (each_filled P h m) (λ ps p. holds p)
-
 dec_filled : (G : Ground) (Γ : Env) (d : Dec (Many (Init Value))) → Of (AllFilled Γ.parts) (resolve_data_dec G Γ d)
 dec_filled G Γ tree.nothing = holds (All-nil (Filled Γ.parts))
-dec_filled G Γ (variables m is) = of_any _ (λ u. parts_filled (Filled Γ.parts) (λ i. item_filled G Γ (simply (mode_of Γ.text m)) i tt) is)
-dec_filled G Γ (arrays b n m is) = of_any _ (λ u. parts_filled (Filled Γ.parts) (λ i. item_filled G Γ (several (Γ.text.value n) (element_of Γ.text m)) i tt) is)
-dec_filled G Γ (structures n is) = of_any _ (λ u. parts_filled (Filled Γ.parts) (λ i. item_filled G Γ (recorded (Γ.text.word n)) i tt) is)
+dec_filled G Γ (variables m is) = of_any _ (λ u. parts_hold (Filled Γ.parts) (λ i. item_filled G Γ (simply (mode_of Γ.text m)) i tt) is)
+dec_filled G Γ (arrays b n m is) = of_any _ (λ u. parts_hold (Filled Γ.parts) (λ i. item_filled G Γ (several (Γ.text.value n) (element_of Γ.text m)) i tt) is)
+dec_filled G Γ (structures n is) = of_any _ (λ u. parts_hold (Filled Γ.parts) (λ i. item_filled G Γ (recorded (Γ.text.word n)) i tt) is)
 
 brick_filled : (G : Ground) (Γ : Env) (ent : Bool) (b : Brick) → Of (AllFilled Γ.parts) (resolve_brick G Γ ent b)
-brick_filled G Γ ent (store n ds) = parts_filled (Filled Γ.parts) (dec_filled G Γ) ds
+brick_filled G Γ ent (store n ds) = parts_hold (Filled Γ.parts) (dec_filled G Γ) ds
 brick_filled G Γ ent (procedure n i ps m b e) =
     of_any (judge_opt (judge_fields (outermost (in_procedure Γ ps m) b)) ps)
     (λ u. of_any (judge_opt (judge_written Γ) m)
@@ -233,7 +201,7 @@ moditem_filled G Γ (entry b) = brick_filled G Γ true b
 moditem_filled G Γ it = of_any (judge_moditem Γ it) (λ u. holds {a = []} (All-nil (Filled Γ.parts)))
 
 module_filled : (x : Text) (m : Module) → Of (λ T. AllFilled (module_env x m).parts T.parts) (resolve_module x m)
-module_filled x m = of_then (parts_filled (Filled (module_env x m).parts) (moditem_filled (ground x m) (module_env x m)) m) (λ ps p. holds p)
+module_filled x m = of_then (parts_hold (Filled (module_env x m).parts) (moditem_filled (ground x m) (module_env x m)) m) (λ ps p. holds p)
 
 pub tree_filled : (x : Text) (m : Module) (T : Resolved) → Tree x m T → AllFilled (module_env x m).parts T.parts
 tree_filled x m T e = of_right (module_filled x m) T e

@@ -5,5 +5,6 @@ pub mod ResolveExpressions
 pub mod ResolveStatements
 pub mod Places
 pub mod ResolveModules
+pub mod Slots
 pub mod Theorems
 pub mod Examples

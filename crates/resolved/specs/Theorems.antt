@@ -21,6 +21,7 @@ use Rattle.resolved.specs.ResolveExpressions.{Known, resolve, resolve_condition}
 use Rattle.resolved.specs.ResolveStatements.{resolve_body}
 use Rattle.resolved.specs.Places.{places}
 use Rattle.resolved.specs.ResolveModules.{resolve_module}
+use Rattle.resolved.specs.Slots.{Roomy}
 
 -- Resolving without the forms is judging: it accepts what judging accepts, and refuses all else with the same refusal.
 abbrev pub thing_of : Known → Result Thing Refusal
@@ -88,3 +89,7 @@ Filled ps (datum d) = (length d.modes ≡ scalars ps d.shape) × ((cs : List Cel
 
 abbrev pub CellsRight : Type 0
 CellsRight = (x : Text) (m : Module) (T : Resolved) → Tree x m T → All (Filled (module_env x m).parts) T.parts
+
+-- No procedure's body names a slot that it has not.
+abbrev pub SlotsRight : Type 0
+SlotsRight = (x : Text) (m : Module) (T : Resolved) → Tree x m T → All Roomy T.parts

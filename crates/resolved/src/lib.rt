@@ -2,7 +2,7 @@
 //! data and strings lie. It is a definition; the functions here carry its theorems.
 #![tactic(auto)]
 
-ghost use Rattle.resolved.specs.Theorems.{ExpressionsAgree, ConditionsAgree, StatementsAgree, ModulesAgree, OneTree, AcceptedTree, ReadsRight, EachPlaced, PlacesApart, PlacesBelow, GroundRight, CellsRight};
+ghost use Rattle.resolved.specs.Theorems.{ExpressionsAgree, ConditionsAgree, StatementsAgree, ModulesAgree, OneTree, AcceptedTree, ReadsRight, EachPlaced, PlacesApart, PlacesBelow, GroundRight, CellsRight, SlotsRight};
 ghost use Rattle.resolved.specs.Examples.{Examples};
 
 /// What an expression is resolved to stands for what the expression is judged to stand for; or both are refused alike.
@@ -65,7 +65,12 @@ pub fn cells_right()
     ensures { CellsRight }
 {}
 
-/// The resolved trees of two small modules, and the refusal of a third.
+/// No procedure's body names a slot that the procedure has not.
+pub fn slots_right()
+    ensures { SlotsRight }
+{}
+
+/// The resolved trees of three small modules, and the refusal of a fourth.
 pub fn examples()
     ensures { Examples }
 {}
