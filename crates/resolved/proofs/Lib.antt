@@ -9,3 +9,4 @@ pub mod Stored
 pub mod Rooms
 pub mod Slotted
 pub mod Procedures
+pub mod Rising

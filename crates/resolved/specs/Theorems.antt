@@ -74,6 +74,10 @@ EachPlaced = (x : Text) (m : Module) → map of_span (places x m) ≡ charges x 
 abbrev pub PlacesApart : Type 0
 PlacesApart = (x : Text) (m : Module) (i j : ℕ) (a b : Span) → i < j → slice_get (places x m) i ≡ Some a → slice_get (places x m) j ≡ Some b → a.first + a.size ≤ b.first
 
+-- In a module made of a text they stand in the order of their items: an item has at most one.
+abbrev pub PlacesInOrder : Type 0
+PlacesInOrder = (x : Text) (m : Module) (w : List Symbol) → Made m w → (i j : ℕ) (a b : Span) → i < j → slice_get (places x m) i ≡ Some a → slice_get (places x m) j ≡ Some b → a.item < b.item
+
 -- Where there are not too many, all lie below 4,096.
 abbrev pub PlacesBelow : Type 0
 PlacesBelow = (x : Text) (m : Module) → Clean (space_wrongs x m) tt → (i : ℕ) (a : Span) → slice_get (places x m) i ≡ Some a → a.first + a.size ≤ 4096

@@ -2,7 +2,7 @@
 //! data and strings lie. It is a definition; the functions here carry its theorems.
 #![tactic(auto)]
 
-ghost use Rattle.resolved.specs.Theorems.{ExpressionsAgree, ConditionsAgree, StatementsAgree, ModulesAgree, OneTree, AcceptedTree, ReadsRight, EachPlaced, PlacesApart, PlacesBelow, GroundRight, CellsRight, SlotsRight};
+ghost use Rattle.resolved.specs.Theorems.{ExpressionsAgree, ConditionsAgree, StatementsAgree, ModulesAgree, OneTree, AcceptedTree, ReadsRight, EachPlaced, PlacesApart, PlacesInOrder, PlacesBelow, GroundRight, CellsRight, SlotsRight};
 ghost use Rattle.resolved.specs.Examples.{Examples};
 
 /// What an expression is resolved to stands for what the expression is judged to stand for; or both are refused alike.
@@ -48,6 +48,11 @@ pub fn each_placed()
 /// No two of them overlap.
 pub fn places_apart()
     ensures { PlacesApart }
+{}
+
+/// They stand in the order of their items, so an item has at most one of them.
+pub fn places_in_order()
+    ensures { PlacesInOrder }
 {}
 
 /// All places lie below 4,096 in a module that has not too many.
