@@ -895,3 +895,55 @@ PROC Q (INT A); ENDPROC; {RETURN (@Q(1))} || 11 || a procedure without a result 
 $N PROC Q (INT A); ENDPROC; {N := B := @Q(1)} || 11 || a procedure without a result, before the different modes of the destinations
 $F{N := B := @Z()} || 11 || a call without a result, before the different modes of the destinations
 '''
+
+# The longest chains of each kind: what stands one behind the other must take no stack, and the earliest wrong is answered wherever it is.
+_D = 'DATA D; INT N; BYTE B; ENDDATA; '
+def _p(statement, before=_D): return before + 'PROC P (); ' + statement + ' ENDPROC'
+add(_p('N := ' + '- ' * 4060 + 'N'), 0, 'the longest row of signs')
+add(_p('B := @' + '- ' * 3000 + 'N'), 11, 'the outermost sign of a long row gives INT')
+add(_p('N := ' + '- ' * 3000 + '@U'), 10, 'an unknown name behind a long row of signs')
+add(_p('N := LENGTH @' + '- ' * 3000 + 'N'), 11, 'LENGTH of a long row of signs')
+add(_p('N := - ABS ' * 1 + '- ' * 2000 + 'LENGTH @N'), 11, 'LENGTH of an INT inside a long row of signs')
+add(_p('N := ' + '+ BYTE ' * 2000 + 'N'), 0, 'signs and BYTE by turns')
+add(_p('B := BYTE ' + '- ' * 3000 + 'N'), 0, 'BYTE outside a long row of signs')
+add(_p('N := ' + ' + '.join(['N'] * 2030)), 0, 'the longest chain of operands')
+add(_p('N := @U + ' + ' + '.join(['N'] * 1000) + ' + V'), 10, 'the first and the last operand of a long chain are unknown')
+add(_p('N := ' + ' + '.join(['N'] * 1000) + ' + @V'), 10, 'the last operand of a long chain is unknown')
+add(_p('N := ' + ' + '.join(['N'] * 500) + ' + @"a" + ' + ' + '.join(['N'] * 500) + ' + V'), 11, 'an operand in the midst of a long chain does not fit')
+add(_p('B := ' + ' LAND '.join(['B'] * 2030)), 0, 'a long chain of BYTEs')
+add(_p('B := @' + ' LAND '.join(['B'] * 1000) + ' LAND N'), 11, 'the last operand of a chain of BYTEs is an INT')
+add(_p('B := @' + ' LAND '.join(['B'] * 500) + ' LAND N LAND ' + ' LAND '.join(['B'] * 500)), 11, 'one operand of a chain of BYTEs is an INT')
+add(_p('B := @N LAND ' + ' LAND '.join(['B'] * 1000)), 11, 'the first operand of a chain of BYTEs is an INT')
+add(_p('B := ' + ' LOR '.join(['B LAND 255'] * 700) + ' NEV B'), 0, 'logical operators of three kinds on BYTEs')
+add(_p('B := @B LAND B + B'), 11, 'a sum of BYTEs is an INT')
+_R = 'MODE R (REF R S, INT K); DATA D; R A := (A, 1); INT N; ENDDATA; '
+add(_p('A' + '.S' * 2020 + '.K := 1', _R), 0, 'the longest row of components, as a destination')
+add(_p('N := A' + '.S' * 2020 + '.K', _R), 0, 'the longest row of components, in an expression')
+add(_p('N := A' + '.S' * 1000 + '.@T' + '.S' * 900, _R), 10, 'an unknown component in the midst of many')
+add(_p('N := @A' + '.S' * 1000 + '.K' + '.S' * 900, _R), 11, 'a component of an INT in the midst of many')
+add(_p('N := @A' + '.S' * 1900, _R), 11, 'a row of components ends in a record')
+_A = 'DATA D; ARRAY (2) REF ARRAY REF ARRAY INT A := (X, X); INT N; ARRAY (0) REF ARRAY INT X; ENDDATA; '
+add(_p('N := A(N)(N)(N)', _A), 0, 'three subscripts')
+add(_p('N := @A(N)(N)(N)(N)', _A), 11, 'a subscript of an INT')
+add(_p('N := A(@"a")(N)(U)', _A), 11, 'the first subscript is wrong before the last')
+add(_p('N := ' * 2030 + '1'), 0, 'the longest row of destinations')
+add(_p('@B := ' + 'N := ' * 1500 + '1'), 11, 'the first of many destinations has another mode')
+add(_p('@N := ' + 'N := ' * 700 + 'B := ' + 'N := ' * 700 + '1'), 11, 'one of many destinations has another mode')
+add(_p('N := ' * 1000 + '@U := ' + 'N := ' * 500 + 'V := 1'), 10, 'an unknown destination among many')
+add(_p('N := B := @U := 1'), 10, 'an unknown destination behind two of different modes')
+_F = 'PROC F (INT A, B, C, D, E, F, G, H); ENDPROC; DATA D; INT N; ENDDATA; '
+add(_p('@F(' + ','.join(['N'] * 2000) + ')', _F), 11, 'a call with the most expressions')
+add(_p('F(' + ','.join(['N'] * 7) + ',@"a",' + ','.join(['N'] * 1000) + ',U)', _F), 11, 'the eighth of many expressions does not fit')
+add(_p('F(' + ','.join(['N'] * 8) + ',"a",' + ','.join(['N'] * 1000) + ',@U)', _F), 10, 'what has no parameter is brought to nothing, and its names are looked for')
+add('DATA D; ARRAY (2030) INT A := (' + ','.join(['1'] * 2030) + '); ENDDATA', 0, 'the longest list of values')
+add('DATA D; ARRAY (2029) INT A := @(' + ','.join(['1'] * 2030) + '); ENDDATA', 11, 'a value too many in a long list')
+add('DATA D; ARRAY (2000) BYTE A := (' + ','.join(['1'] * 1000) + ',@256,' + ','.join(['1'] * 998) + ',U); ENDDATA', 11, 'a value in the midst of a long list does not fit')
+add('DATA D; ARRAY (2000) INT A := (@U,' + ','.join(['1'] * 1999) + '); ENDDATA', 10, 'the first value of a long list is unknown')
+add('DATA D; ARRAY (2402) INT A := (1(1000),2,' + ','.join(['3(2)'] * 700) + ',4); ENDDATA', 0, 'many values with repetitions')
+add('MODE M (' + 'REF ARRAY ' * 2030 + 'INT A)', 0, 'the longest row of REF ARRAY')
+add('MODE M (' + 'REF ARRAY () ' * 1010 + 'INT A)', 0, 'the longest row of REF ARRAY with brackets')
+add('MODE M (' + 'REF ARRAY ' * 2000 + '@M2 A)', 10, 'an unknown record mode behind many REF ARRAY')
+def _mix(d): return 'N' if d == 0 else 'N + N NEV N LOR N LAND N * - (' + _mix(d - 1) + ')'
+add(_p('N := ' + _mix(32)), 0, 'all levels of operators inside one another as deep as can be')
+def _calls(d): return 'N' if d == 0 else 'N + N NEV N LOR N LAND N * - F(1, ' + _calls(d - 1) + ')'
+add(_p('N := ' + _calls(32), 'DATA D; INT N; ENDDATA; PROC F (INT A, B) INT; RETURN (1) ENDPROC; '), 0, 'calls inside one another as deep as can be')

@@ -242,7 +242,8 @@ fn signed(
     }
 }
 
-/// What an expression stands for in which no operator is outside brackets.
+/// What an expression stands for in which no operator is outside brackets. Not inlined, so that a level of operators takes little of the stack.
+#[inline(never)]
 #[cycle(expressions)]
 fn primary(env: Env<'_>, nodes: &[Node], k: usize) -> Result<Thing, Refusal>
     ensures { (n : ℕ) (e : Expr n) → IsExpr e nodes.now k → ((c : Symbol) (i l r : ℕ) → At nodes.now k (DyadicNode c i l r) → ⊥) → ((c : Symbol) (i r : ℕ) → At nodes.now k (MonadicNode c i r) → ⊥) → Answers (thing_means (facts env.entry.text)) result (judge_of (env_means env.entry) e) }
