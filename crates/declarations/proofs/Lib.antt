@@ -1,4 +1,5 @@
 pub mod Modes
+pub mod Referring
 pub mod Components
 pub mod Initials
 pub mod Sharing

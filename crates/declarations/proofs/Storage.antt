@@ -14,7 +14,8 @@ use Rattle.nodes.specs.declared.Node.{Node}
 use Rattle.nodes.specs.declared.Node.TheVariants as node
 use Rattle.nodes.specs.declared.Parsed.{Parsed}
 use Rattle.nodes.specs.declared.Fault.{Fault}
-use Rattle.declarations.proofs.Modes.{ModeMade, AmodeMade}
+use Rattle.declarations.proofs.Modes.{ModeMade}
+use Rattle.declarations.specs.Referring.{AmodeMade}
 use Rattle.declarations.proofs.Firsts.{mode_alike, mode_refuses}
 use Rattle.declarations.specs.Declaring.{mode_firsts, Listing, IsListing, of_listing}
 use Rattle.nodes.proofs.Repeat.{keep_declareds}

@@ -1,2 +1,3 @@
 pub mod Declaring
 pub mod Bodies
+pub mod Referring

@@ -4,12 +4,13 @@
 pub mod bricks;
 pub mod locals;
 
-ghost use Rattle.std.specs.Prelude.{◌≡◌, ℕ, ◌+◌, ◌-◌, ◌*◌, ◌<◌, ◌≤◌, true, [], ◌∷◌, length, MatchResult, slice_index_or};
+ghost use Rattle.std.specs.Prelude.{◌≡◌, ℕ, ◌+◌, ◌-◌, ◌*◌, ◌<◌, ◌≤◌, true, [], ◌∷◌, length, MatchResult, ◌≢◌, slice_index_or};
 ghost use Rattle.nodes.specs.Made.{Fewer, Made, MadeFrom, Way, Refused, FieldsWay, Shares, of_shared, NamesWay, Room, ReadsTo, Reads};
 ghost use Rattle.nodes.specs.Nodes.{IsExpr, IsMode, IsAmode, IsFields, IsValue, IsValues, IsEntry, IsMany, IsName, IsInit};
 ghost use Rattle.grammar.specs.Symbols.{Says, among, STOP, LEFT, COMMA, REF, ARRAY, PLUS, MINUS};
 ghost use Rattle.grammar.specs.Trees.{Expr, of_expr, Mode, Amode, of_mode, of_amode, Fields, Value, Values, Entry, of_fields, of_value, of_values, of_entry, Many, Init, of_init, of_inits, of_name, of_names};
 ghost use Rattle.grammar.specs.Machine.{each, all, a_mode, an_amode, the_fields, a_value, entries, declareds, unset, stored, inblock, Setting, Initial as InitialTree, of_initial, set as set_sort, Sort, Declared, of_declared};
+ghost use Rattle.declarations.specs.Referring.{Refers, Behind, AmodeMade};
 ghost use Rattle.declarations.specs.Declaring.{mode_firsts, goal_of, Listing, IsListing, of_listing};
 ghost use Rattle.nodes.specs.Lists.{IsInitial, IsDeclared};
 ghost use Rattle.std.proofs.Common.{rules};
@@ -20,56 +21,43 @@ use grammar::Symbol;
 use nodes::lists::{Entries, read_list};
 use nodes::{Fault, Node, Parsed, Spot, put};
 
-/// The mode of an array's elements.
-#[cycle(modes)]
-pub fn amode(from: Spot<'_>, nodes: &mut [Node]) -> Result<Parsed, Fault>
-    requires within { from.next ≤ length from.symbols.now }
-    requires room { Room 0 from nodes.old }
-    ensures { ReadsTo 0 Amode IsAmode of_amode (an_amode ∷ []) from.entry nodes.old nodes.new result }
+/// Whether a reference to an array is at the number i.
+fn refers(from: Spot<'_>, i: usize) -> bool
+    ensures { Says result (Refers from.entry.symbols.now i) }
 {
-    if from.peek(from.next) == Symbol::Name {
-        return Ok(put(nodes, from.used, Node::Records(from.next), from.next + 1));
-    }
-    mode(from, nodes)
+    from.peek(i) == Symbol::Ref && from.peek(i + 1) == Symbol::Array
 }
 
-/// A mode that refers to an array, REF being there, ARRAY behind it.
-#[cycle(modes)]
-fn array_mode(from: Spot<'_>, nodes: &mut [Node]) -> Result<Parsed, Fault>
-    requires refers { slice_index_or from.symbols.now from.next STOP ≡ REF }
-    requires array { slice_index_or from.symbols.now (from.next + 1) STOP ≡ ARRAY }
-    requires there { from.next + 1 < length from.symbols.now }
-    requires room { Room 0 from nodes.old }
-    ensures { ReadsTo 0 Mode IsMode of_mode (a_mode ∷ []) from.entry nodes.old nodes.new result }
+/// Where the mode of the elements begins, a reference to an array being at the number i.
+fn elements(from: Spot<'_>, i: usize) -> Result<usize, Fault>
+    requires reached { Behind from.depth from.symbols.now from.next i }
+    requires refers { Refers from.symbols.now i }
+    ensures { MatchResult result (λ k. Behind from.entry.depth from.entry.symbols.now from.entry.next k × (i < k)) (λ f. Refused (an_amode ∷ []) from.entry.depth from.entry.symbols.now from.entry.next f) }
 {
-    if from.peek(from.next + 2) != Symbol::Left {
-        let behind = Spot {
-            next: from.next + 2,
-            ..from
-        };
-        let m = amode(behind, nodes)?;
-        return Ok(put(nodes, m.used, Node::RefArray(m.root), m.next));
+    if from.peek(i + 2) != Symbol::Left {
+        return Ok(i + 2);
     }
-    let _ = from.deeper(from.next + 2)?;
-    from.expect(from.next + 3, Symbol::Right)?;
-    let behind = Spot {
-        next: from.next + 4,
-        ..from
-    };
-    let m = amode(behind, nodes)?;
-    Ok(put(
-        nodes,
-        m.used,
-        Node::RefArrayBrackets(from.next + 2, m.root),
-        m.next,
-    ))
+    let _ = from.deeper(i + 2)?;
+    from.expect(i + 3, Symbol::Right)?;
+    Ok(i + 4)
 }
 
-/// A mode that begins with REF there.
-#[cycle(modes)]
+/// Where the innermost mode begins, behind all the references to arrays.
+fn innermost(from: Spot<'_>) -> Result<usize, Fault>
+    ensures { MatchResult result (λ k. Behind from.entry.depth from.entry.symbols.now from.entry.next k × (Refers from.entry.symbols.now k → ⊥)) (λ f. Refused (an_amode ∷ []) from.entry.depth from.entry.symbols.now from.entry.next f) }
+{
+    let mut i = from.next;
+    while refers(from, i) {
+        i = elements(from, i)?;
+    }
+    Ok(i)
+}
+
+/// A mode that begins with REF there, and refers to no array.
 fn reference(from: Spot<'_>, nodes: &mut [Node]) -> Result<Parsed, Fault>
     requires refers { slice_index_or from.symbols.now from.next STOP ≡ REF }
     requires there { from.next < length from.symbols.now }
+    requires bare { Refers from.symbols.now from.next → ⊥ }
     requires room { Room 0 from nodes.old }
     ensures { ReadsTo 0 Mode IsMode of_mode (a_mode ∷ []) from.entry nodes.old nodes.new result }
 {
@@ -87,23 +75,87 @@ fn reference(from: Spot<'_>, nodes: &mut [Node]) -> Result<Parsed, Fault>
             Node::RefRecord(from.next + 1),
             from.next + 2,
         )),
-        Symbol::Array => array_mode(from, nodes),
         _ => Err(Fault::Syntax(from.next + 1)),
     }
 }
 
-#[cycle(modes)]
+/// The mode of an array's elements that refers to no further array.
+fn bare_amode(from: Spot<'_>, nodes: &mut [Node]) -> Result<Parsed, Fault>
+    requires bare { Refers from.symbols.now from.next → ⊥ }
+    requires room { Room 0 from nodes.old }
+    ensures { ReadsTo 0 Amode IsAmode of_amode (an_amode ∷ []) from.entry nodes.old nodes.new result }
+{
+    match from.peek(from.next) {
+        Symbol::Int => Ok(put(nodes, from.used, Node::Int, from.next + 1)),
+        Symbol::Byte => Ok(put(nodes, from.used, Node::Byte(from.next), from.next + 1)),
+        Symbol::Name => Ok(put(nodes, from.used, Node::Records(from.next), from.next + 1)),
+        Symbol::Ref => reference(from, nodes),
+        _ => Err(Fault::Syntax(from.next)),
+    }
+}
+
+/// The mode of an array's elements, as far as it has been read from its end: where it begins there, and what stands for it.
+#[derive(Clone, Copy)]
+struct Inner {
+    begin: usize,
+    mode: Parsed,
+}
+
+/// The mode with the reference to an array that ends where it begins.
+fn referred(from: Spot<'_>, nodes: &mut [Node], inner: Inner) -> Inner
+    requires reached { Behind from.depth from.symbols.now from.next inner.begin }
+    requires before { from.next ≢ inner.begin }
+    requires room { Room 0 from nodes.old }
+    requires read { AmodeMade from.depth from.symbols.now inner.begin from.used nodes.old nodes.old inner.mode }
+    ensures { Behind from.entry.depth from.entry.symbols.now from.entry.next result.begin × (result.begin < inner.begin) × AmodeMade from.entry.depth from.entry.symbols.now result.begin from.entry.used nodes.old nodes.new result.mode }
+{
+    let end = inner.begin;
+    let elements = inner.mode;
+    if from.peek(end - 1) == Symbol::Right {
+        let node = Node::RefArrayBrackets(end - 2, elements.root);
+        return Inner {
+            begin: end - 4,
+            mode: put(nodes, elements.used, node, elements.next),
+        };
+    }
+    let node = Node::RefArray(elements.root);
+    Inner {
+        begin: end - 2,
+        mode: put(nodes, elements.used, node, elements.next),
+    }
+}
+
+/// The mode of an array's elements.
+// No function for a mode inside a mode, as the grammar has it: references to arrays stand in one another as often as a text has room for, and
+// a loop takes no more of the stack for that. Their nodes are written from the innermost on, since a node stands behind those that it names.
+pub fn amode(from: Spot<'_>, nodes: &mut [Node]) -> Result<Parsed, Fault>
+    requires within { from.next ≤ length from.symbols.now }
+    requires room { Room 0 from nodes.old }
+    ensures { ReadsTo 0 Amode IsAmode of_amode (an_amode ∷ []) from.entry nodes.old nodes.new result }
+{
+    let begin = innermost(from)?;
+    let behind = Spot {
+        next: begin,
+        ..from
+    };
+    let mode = bare_amode(behind, nodes)?;
+    let mut inner = Inner { begin, mode };
+    while inner.begin != from.next {
+        inner = referred(from, nodes, inner);
+    }
+    Ok(inner.mode)
+}
+
+/// A mode: any that elements may have, but for the bare name of a record mode.
 pub fn mode(from: Spot<'_>, nodes: &mut [Node]) -> Result<Parsed, Fault>
     requires within { from.next ≤ length from.symbols.now }
     requires room { Room 0 from nodes.old }
     ensures { ReadsTo 0 Mode IsMode of_mode (a_mode ∷ []) from.entry nodes.old nodes.new result }
 {
-    match from.peek(from.next) {
-        Symbol::Int => Ok(put(nodes, from.used, Node::Int, from.next + 1)),
-        Symbol::Byte => Ok(put(nodes, from.used, Node::Byte(from.next), from.next + 1)),
-        Symbol::Ref => reference(from, nodes),
-        _ => Err(Fault::Syntax(from.next)),
+    if from.peek(from.next) == Symbol::Name {
+        return Err(Fault::Syntax(from.next));
     }
+    amode(from, nodes)
 }
 
 /// Whether a mode begins with the terminal.
