@@ -1,10 +1,10 @@
 #!/bin/sh
-# The least stack (`ulimit -s`) with which the program judge answers the longest chains that a text can hold, in KB, and what is left of it without
-# what the program takes to make its work table, which is its need on the empty text.
+# The stack that the program judge takes on the longest chains and the deepest nesting that a text can hold, in KB: the least limit (`ulimit -s`) with
+# which it answers, nearly all of which is for making the work table; and what judging itself takes, by valgrind's samples after the table is made.
 # Use, from the repository's folder, after `rt run` in crates/judge: bench/stack.sh
 set -eu
 python3 - <<'P'
-import resource, subprocess
+import os, resource, subprocess, tempfile
 
 PROGRAM = "crates/judge/out/judge"
 DATA = "DATA D; INT N; ARRAY (3) INT A; ENDDATA; "
@@ -45,12 +45,20 @@ def answers(text, kilobytes):
         resource.setrlimit(resource.RLIMIT_STACK, (kilobytes * 1024, kilobytes * 1024))
     return subprocess.run([PROGRAM], input=text.encode(), stdout=subprocess.PIPE, stderr=subprocess.DEVNULL, preexec_fn=limit).returncode == 0
 
-base = None
+def judging(text):
+    with tempfile.TemporaryDirectory() as folder:
+        out = os.path.join(folder, "massif")
+        subprocess.run(["valgrind", "--tool=massif", "--stacks=yes", "--max-snapshots=1000", "--max-stackframe=100000000", "--main-stacksize=67108864",
+                        "--massif-out-file=" + out, PROGRAM], input=text.encode(), stdout=subprocess.DEVNULL, stderr=subprocess.DEVNULL, check=True)
+        sizes = [int(line.split("=")[1]) for line in open(out) if line.startswith("mem_stacks_B=")]
+    # the table has more than 1 MB, and nothing that judging does
+    made = max(k for k, size in enumerate(sizes) if size > 1 << 20)
+    return max(sizes[made + 1:], default=0) // 1024
+
 for name, text in TEXTS:
     low, high = 0, 65536
     while high - low > 8:
         middle = (low + high) // 2
         low, high = (low, middle) if answers(text, middle) else (middle, high)
-    base = high if base is None else base
-    print("%-24s %6d KB %6d KB" % (name, high, high - base))
+    print("%-24s %6d %6d" % (name, high, judging(text)))
 P
