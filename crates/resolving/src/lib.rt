@@ -13,7 +13,7 @@ ghost use Rattle.resolved.specs.Reads.{plain_reads as plain_reads_of, reference_
 ghost use Rattle.modes.specs.Meanings.{need_means, thing_means};
 ghost use Rattle.scopes.specs.Meanings.{env_means, Answers};
 ghost use Rattle.space.specs.Charges.{charge_means};
-ghost use Rattle.resolving.specs.Meanings.{Grounds, known_means, part_means, component_parts, span_means};
+ghost use Rattle.resolving.specs.Meanings.{Grounds, OwnGround, known_means, part_means, component_parts, span_means};
 
 use modes::{Mode, Need, Plain, Thing};
 use names::{Name, last};
@@ -80,6 +80,11 @@ pub fn widens(need: Need, thing: Thing) -> bool
     )
 }
 
+/// Where the first names of a table are those of a module, `variable` tells what the resolved tree of that module has.
+pub fn own_ground()
+    ensures { OwnGround }
+{}
+
 /// The item that declares the `i`-th name, if that is one of the module's, which are the first `outer`; and else 0.
 fn home_item(env: Env<'_>, outer: usize, i: usize) -> usize
     requires { i < length env.names.now }
@@ -88,8 +93,8 @@ fn home_item(env: Env<'_>, outer: usize, i: usize) -> usize
     if i < outer { env.names[i].item } else { 0 }
 }
 
-/// What the name of a variable stands for, and where that is kept, the first `outer` names being the module's. It is what the tree has at the name,
-/// whatever the names of the module call. A data variable among the other names, which no module has, would have the item 0.
+/// What the name of a variable stands for, and where that is kept, the first `outer` names being the module's: what the tree has at the name, whatever
+/// calls of the module's names call. A data variable among the other names, where no module has one, would have the item 0, as in the definition.
 pub fn variable(env: Env<'_>, outer: usize, item: usize) -> Result<(Thing, Held), Refusal>
     ensures { (G : Ground) → Grounds env.entry.names.now outer G → Answers (known_means (facts env.entry.text)) result (resolve_name G (env_means env.entry) item) }
 {
