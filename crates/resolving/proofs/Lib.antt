@@ -1,3 +1,2 @@
 mod Homes
-mod Called
 mod Laid

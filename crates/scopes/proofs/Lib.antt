@@ -1,3 +1,3 @@
-mod Seeking
+pub mod Seeking
 pub mod Parts
 pub mod Following

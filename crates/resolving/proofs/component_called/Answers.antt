@@ -1,8 +1,8 @@
 use Rattle.std.proofs.Common.{sym}
-use Rattle.resolving.proofs.Called.{last_is_sought}
+use Rattle.scopes.proofs.Seeking.{last_component}
 use Rattle.resolving.proofs.component_called.Goals as goal
 
 pub returns-clause-called : goal.returns-clause-called
 returns-clause-called c =
     let e = c.args.env in
-    sym (last_is_sought e.text c.args.owner c.args.item e.parts.now c.last.result (rw (sym c.spelling.ensures) (rw (sym c.spelling-2.ensures) c.last.ensures)))
+    sym (last_component e.text e.parts.now c.args.owner c.args.item _ _ c.last.result c.spelling.ensures c.spelling-2.ensures c.last.ensures)
