@@ -21,12 +21,10 @@ use frames::guards::Opened;
 use frames::naming::declare_locals;
 use lists::entries;
 use modes::written::mode_at;
-use modes::{Mode, Plain};
+use modes::{INT, Mode};
 use nodes::{Node, node_at};
 use scopes::Declared;
 use statics::Refusal;
-
-const INT: Mode = Mode::Plain(Plain::Int);
 
 /// How many names share a value.
 fn sharing(nodes: &[Node], init: usize) -> usize

@@ -26,7 +26,7 @@ use inventory::module_names::{Starts, names_of_module};
 use lexer::table::MAX_ITEMS;
 use limits::crowds::crowds;
 use limits::twice::declared_twice;
-use modes::{Mode, Plain};
+use modes::{INT, Mode};
 use moditems::module;
 use nodes::Node;
 use scopes::{Class, Component, Declared};
@@ -34,8 +34,6 @@ use space::{Charge, space};
 use statics::Refusal;
 use syntax::NodeTable;
 use texts::Text;
-
-const INT: Mode = Mode::Plain(Plain::Int);
 
 /// The tables that checking a module fills: none of them needs more entries than the text has items.
 #[derive(Clone, Copy)]

@@ -23,9 +23,9 @@ ghost use Rattle.judging.specs.Openings.{stripped};
 
 use fronts::{front, layer, layers, spot};
 use lists::{how_many, parted};
-use modes::{Base, Element, Mode, Need, Plain, Thing};
+use modes::{BYTE, Base, Element, INT, Mode, Need, Plain, Thing};
 use nodes::{Node, node_at};
-use operators::{BYTE, argument, behind, combined, figure, operand, outcome};
+use operators::{argument, behind, combined, figure, operand, outcome};
 use scopes::{Env, Head, Signature};
 use statics::Refusal;
 
@@ -104,7 +104,7 @@ fn subscripted(
     ensures { (n : ℕ) (e : Expr n) → IsExpr e nodes.now index → Answers (thing_means (facts env.entry.text)) result (judge_subscript (Ok (thing_means (facts env.entry.text) base)) front (judge_of (env_means env.entry) e) (spot_of e)) }
 {
     let mode = bring(env, Need::Elements, base, front)?;
-    let _ = brought(env, nodes, Need::Mode(Mode::Plain(Plain::Int)), index)?;
+    let _ = brought(env, nodes, Need::Mode(INT), index)?;
     Ok(mode.subscript())
 }
 

@@ -11,13 +11,9 @@ ghost use Rattle.modes.specs.Meanings.{mode_means, need_means, thing_means};
 ghost use Rattle.scopes.specs.Meanings.{Answers};
 
 use grammar::Symbol;
-use modes::{Mode, Need, Plain, Thing};
+use modes::{BYTE, INT, Mode, Need, Thing};
 use statics::Refusal;
 use texts::Text;
-
-const INT: Mode = Mode::Plain(Plain::Int);
-
-pub const BYTE: Mode = Mode::Plain(Plain::Byte);
 
 /// What a dyadic operator needs of its operands.
 pub fn operand(operator: Symbol) -> Need

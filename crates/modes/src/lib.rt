@@ -45,6 +45,10 @@ pub enum Mode {
     RefArray(Element),
 }
 
+pub const INT: Mode = Mode::Plain(Plain::Int);
+
+pub const BYTE: Mode = Mode::Plain(Plain::Byte);
+
 /// What an expression stands for.
 #[derive(Clone, Copy, PartialEq, Eq, Debug)]
 pub enum Thing {

@@ -8,7 +8,7 @@ ghost use Rattle.statics.specs.JudgeExpressions.{number_of};
 ghost use Rattle.texts.specs.Facts.{facts};
 ghost use Rattle.resolved.specs.Places.{laid};
 ghost use Rattle.resolved.specs.Grounds.{Ground, home_at};
-ghost use Rattle.resolved.specs.ResolveExpressions.{resolve_name, component_called as called_of};
+ghost use Rattle.resolved.specs.ResolveExpressions.{resolve_name};
 ghost use Rattle.resolved.specs.Reads.{plain_reads as plain_reads_of, reference_reads as reference_reads_of, reads as reads_of, widens_for};
 ghost use Rattle.modes.specs.Meanings.{need_means, thing_means};
 ghost use Rattle.scopes.specs.Meanings.{env_means, Answers};
@@ -16,7 +16,6 @@ ghost use Rattle.space.specs.Charges.{charge_means};
 ghost use Rattle.resolving.specs.Meanings.{Grounds, OwnGround, known_means, part_means, component_parts, span_means};
 
 use modes::{Mode, Need, Plain, Thing};
-use names::{Name, last};
 use scopes::{Class, Env};
 use space::Charge;
 use statics::Refusal;
@@ -109,23 +108,11 @@ pub fn variable(env: Env<'_>, outer: usize, item: usize) -> Result<(Thing, Held)
     }
 }
 
-/// Which of all components is the one of a record mode that has the name.
-fn component_called(env: Env<'_>, owner: usize, item: usize) -> Option<usize>
-    ensures called { result ≡ called_of (env_means env.entry) ((facts env.entry.text).word owner) item }
-    ensures within { IfSome result (λ k. k < length env.entry.parts.now) }
-{
-    let wanted = Name {
-        of: env.text.spelling(owner),
-        own: env.text.spelling(item),
-    };
-    last(env.parts, &env.text, wanted)
-}
-
 /// What the component of a record mode stands for that has the name, and its number among the components of that mode, the first having 0.
 pub fn component(env: Env<'_>, owner: usize, item: usize) -> Option<(Thing, usize)>
     ensures { option_map (part_means (facts env.entry.text)) result ≡ component_parts (env_means env.entry) ((facts env.entry.text).word owner) item }
 {
-    let k = component_called(env, owner, item)?;
+    let k = env.component_called(owner, item)?;
     let before = Env {
         parts: &env.parts[..k],
         ..env

@@ -1,3 +1,3 @@
-pub mod Seeking
+mod Seeking
 pub mod Parts
 pub mod Following

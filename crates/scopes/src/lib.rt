@@ -1,9 +1,9 @@
 //! The names in scope where a construct of a module stands, and what they mean there.
 #![tactic(auto)]
 
-ghost use Rattle.std.specs.Prelude.{take, drop, ◌≡◌, ◌<◌, length, IfSome, option_map, slice_get};
-ghost use Rattle.statics.specs.Scopes.{record_modes};
-ghost use Rattle.statics.specs.JudgeExpressions.{look, called_at, stands, keeps, runs, heads, shapes, selects};
+ghost use Rattle.std.specs.Prelude.{take, drop, ◌≡◌, ◌<◌, ◌&&◌, length, IfSome, option_map, slice_get};
+ghost use Rattle.statics.specs.Scopes.{same_word, component_at, record_modes};
+ghost use Rattle.statics.specs.JudgeExpressions.{seek, look, called_at, stands, keeps, runs, heads, shapes, selects};
 ghost use Rattle.names.specs.Spelling.{alone};
 ghost use Rattle.texts.specs.Facts.{facts, spelling};
 ghost use Rattle.modes.specs.Meanings.{mode_means, thing_means};
@@ -163,15 +163,23 @@ impl<'w> Env<'w> {
         }
     }
 
-    /// What the component of a record mode is that has the name.
-    pub fn selects(self, owner: usize, item: usize) -> Option<Thing>
-        ensures { option_map (thing_means (facts self.entry.text)) result ≡ selects (env_means self.entry) ((facts self.entry.text).word owner) item }
+    /// Which of all components is the last one of a record mode that has the name.
+    pub fn component_called(self, owner: usize, item: usize) -> Option<usize>
+        ensures called { result ≡ seek (length (env_means self.entry).parts) (λ k. same_word (component_at (env_means self.entry) k).owner ((facts self.entry.text).word owner) && same_word (component_at (env_means self.entry) k).word ((facts self.entry.text).word item)) }
+        ensures within { IfSome result (λ i. i < length self.entry.parts.now) }
     {
         let wanted = Name {
             of: self.text.spelling(owner),
             own: self.text.spelling(item),
         };
-        let i = last(self.parts, &self.text, wanted)?;
+        last(self.parts, &self.text, wanted)
+    }
+
+    /// What the component of a record mode is that has the name.
+    pub fn selects(self, owner: usize, item: usize) -> Option<Thing>
+        ensures { option_map (thing_means (facts self.entry.text)) result ≡ selects (env_means self.entry) ((facts self.entry.text).word owner) item }
+    {
+        let i = self.component_called(owner, item)?;
         Some(Thing::Place(true, self.parts[i].mode))
     }
 
