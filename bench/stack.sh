@@ -1,7 +1,7 @@
 #!/bin/sh
 # The stack that the program judge takes on the longest chains and the deepest nesting that a text can hold, in KB: the least limit (`ulimit -s`) with
 # which it answers, nearly all of which is for making the work table; and what judging itself takes, by valgrind's samples after the table is made.
-# Use, from the repository's folder, after `rt run` in crates/judge: bench/stack.sh
+# Needs python3 and valgrind. Use, from the repository's folder, after `rt run` in crates/judge: bench/stack.sh
 set -eu
 python3 - <<'P'
 import os, resource, subprocess, tempfile

@@ -81,7 +81,8 @@ fn joined(env: Env<'_>, common: Option<Mode>, mode: Mode) -> Option<Mode>
     }
 }
 
-/// The common mode of a destination and those behind it, if they have one; or the first of them that is wrong.
+/// The common mode of the first destination, of this one and of those behind it, if they have one; or the first that is wrong of this one and
+/// those behind it.
 fn met(
     env: Env<'_>,
     mode: Result<Mode, Refusal>,

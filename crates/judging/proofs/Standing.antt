@@ -1,20 +1,18 @@
 -- What stands at a node, by the kind of the node, and how it is judged. Assumes nothing.
-use Rattle.std.proofs.Common.{◌≡◌, ℕ, zero, suc, ◌<◌, List, [], Ok, Err, Result, IfOk, MatchResult, slice_get, Some, None, Option, MatchOption, IfSome, option_copied, option_map, map, length, get_or, ◌≤◌, Bor, sym, refl, ap, ◌∙◌, subst}
-use Rattle.std.specs.Result.{result_and}
+use Rattle.std.proofs.Common.{◌≡◌, ℕ, zero, suc, ◌<◌, List, Ok, Err, Result, slice_get, Some, None, Option, MatchOption, IfSome, option_copied, option_map, map, length, get_or, ◌≤◌, Bor, sym, refl, ap, ◌∙◌, subst}
 use Rattle.std.proofs.lemmas.Option.{slice_get-map, slice_get_past, slice_get-get_or}
 use Rattle.grammar.specs.declared.Symbol.{Symbol}
 use Rattle.grammar.specs.Trees.{Expr, term, up, dyadic, Term, monadic, primary, Primary, integer, text, variable, call, call_on, paren, Variable, name, element, component, Exprs, first, comma, Dyadic as DyadicOperator, Monadic as MonadicOperator, spell, spell_monadic}
 use Rattle.nodes.specs.Nodes.{At, IsExpr, IsTerm, IsPrimary, IsVariable, IsExprs}
 use Rattle.nodes.specs.declared.Node.{Node}
-use Rattle.nodes.specs.declared.Node.TheVariants.{Integer, Text, Name, Element, Component, Call, CallOn, Paren, Monadic, Dyadic, Also}
+use Rattle.nodes.specs.declared.Node.TheVariants.{Integer, Text, Name, Element, Component, Call, CallOn, Paren, Monadic, Dyadic}
 use Rattle.statics.specs.declared.Refusal.{Refusal}
 use Rattle.statics.specs.Modes.{Mode, Thing, value, Need}
 use Rattle.statics.specs.Scopes.{Env}
 use Rattle.statics.specs.Fronts.{spot, front_variable}
 use Rattle.statics.specs.Expressions.{operand, result, argument, outcome, count, figure, string_thing}
 use Rattle.statics.specs.JudgeExpressions.{then, bring, look, heads, yields, judge, judge_term, judge_primary, judge_variable, judge_args, judge_call, judge_bracketed, judge_head, judge_subscript, judge_select}
-use Rattle.scopes.specs.Meanings.{Answers}
-use Rattle.scopes.proofs.Following.{stops, goes, answered}
+use Rattle.scopes.proofs.Following.{stops}
 use Rattle.lists.specs.Lists.{of_exprs}
 use Rattle.judging.specs.Openings.{stripped, layer}
 

@@ -118,7 +118,7 @@ fn selected(env: Env<'_>, base: Thing, front: usize, item: usize) -> Result<Thin
     }
 }
 
-/// A variable whose first item is `name`, and of which what stands before its last subscript or selector stands for `base`.
+/// A variable whose first item is `name`. Without its last subscript or selector it stands for `base`.
 #[cycle(expressions)]
 fn layered(
     env: Env<'_>,
@@ -143,9 +143,7 @@ pub fn variable(env: Env<'_>, nodes: &[Node], k: usize) -> Result<Thing, Refusal
 {
     let name = front(nodes, k);
     let mut thing = env.stands(name)?;
-    let mut depth = layers(nodes, k);
-    while depth > 0 {
-        depth -= 1;
+    for depth in (0..layers(nodes, k)).rev() {
         thing = layered(env, nodes, thing, name, layer(nodes, k, depth))?;
     }
     Ok(thing)
@@ -189,8 +187,9 @@ pub fn judge(env: Env<'_>, nodes: &[Node], k: usize) -> Result<Thing, Refusal>
     }
 }
 
-/// What stands before an operator, and with it the whole of a chain of operators: `whole` is what that gives if this is a BYTE, or the first that
-/// is wrong behind it. A chain is judged from its last operand to the first, so that a long one takes no more of the stack than a short one.
+/// A chain of operators, by the form at `k`, which stands before the operators of its end: it has to meet `need`, and `whole` is what the whole chain
+/// gives if it is a BYTE, or the first that is wrong behind it. A chain is judged from its last operand to the first, so that a long one takes no
+/// more of the stack than a short one.
 #[cycle(expressions)]
 fn operated(
     env: Env<'_>,
@@ -217,8 +216,8 @@ fn operated(
     }
 }
 
-/// What stands behind a sign or another operator with one operand: `whole` is what that gives if this fits. A row of them is judged from the
-/// outermost inward, so that a long one takes no more of the stack than a short one.
+/// A row of signs and other operators with one operand, by the form at `k`, which stands behind the outer ones: it has to meet `need`, and `whole` is
+/// what the whole row gives if it does. A row is judged from the outermost inward, so that a long one takes no more of the stack than a short one.
 #[cycle(expressions)]
 fn signed(
     env: Env<'_>,

@@ -97,7 +97,7 @@ pub fn how_many(nodes: &[Node], list: usize) -> usize
     count(entries(nodes, list))
 }
 
-/// The list in front of the last entry of a list, and this entry; nothing where there is one entry alone.
+/// The list in front of the last entry of a list of expressions, values or destinations, and this entry; nothing where there is one entry alone.
 pub fn parted(nodes: &[Node], list: usize) -> Option<(usize, usize)>
     ensures expressions { (es : Exprs) → IsExprs es nodes.now list → MatchOption result ((e : Expr 5) × IsExpr e nodes.now list × (es ≡ first e)) (λ p. (fs : Exprs) × (e : Expr 5) × IsExprs fs nodes.now p.0 × IsExpr e nodes.now p.1 × (es ≡ comma fs e)) }
     ensures values { (vs : Values) → IsValues vs nodes.now list → MatchOption result ((e : Entry) × IsEntry e nodes.now list × (vs ≡ only e)) (λ p. (us : Values) × (e : Entry) × IsValues us nodes.now p.0 × IsEntry e nodes.now p.1 × (vs ≡ and us e)) }

@@ -221,12 +221,12 @@ pub variable-loop-depth-preserved : goal.variable-loop-depth-preserved
 variable-loop-depth-preserved t c v is =
     let inv = c.loop-depth.invariant v is in
     let d = c.loop-depth.depth - 1 in
-    let p : suc d ≡ c.loop-depth.depth = omega (arith, c.loop-depth-test.true) in
+    let p : suc d ≡ c.loop-depth.depth = omega arith in
     (omega (arith, inv.0), inv.1, c.in_ok-thing-2.ensures (layer v d) (c.layer.ensures.layer v is) (layered v d (omega (arith, inv.0, p))) (inv.1 ∙ sym (same_front v d)) (ap (λ (k : ℕ). judge_variable (env_means c.args.env) (layer v k)) p ∙ inv.2))
 
 pub variable-returns-in_err-thing-2 : goal.variable-returns-in_err-thing-2
 variable-returns-in_err-thing-2 t c v is =
     let inv = c.loop-depth.invariant v is in
     let d = c.loop-depth.depth - 1 in
-    let p : suc d ≡ c.loop-depth.depth = omega (arith, c.loop-depth-test.true) in
+    let p : suc d ≡ c.loop-depth.depth = omega arith in
     passed _ _ c.from_residual-in_err-thing-2.result c.from_residual-in_err-thing-2.ensures.1 (fails (env_means c.args.env) v d _ (c.in_err-thing-2.ensures (layer v d) (c.layer.ensures.layer v is) (layered v d (omega (arith, inv.0, p))) (inv.1 ∙ sym (same_front v d)) (ap (λ (k : ℕ). judge_variable (env_means c.args.env) (layer v k)) p ∙ inv.2)))

@@ -71,6 +71,3 @@ decreases-signed-loop-operator l = l.at
 -- what the variable stands for without the layers that are left
 abbrev pub invariant-variable-loop-depth : goal.invariant-variable-loop-depth
 invariant-variable-loop-depth l = (v : Variable) → IsVariable v l.nodes l.k → (l.depth ≤ layers v) × (l.name ≡ front_variable v) × (judge_variable (env_means l.env) (layer v l.depth) ≡ Ok (thing_means (facts l.env.text) l.thing))
-
-abbrev pub decreases-variable-loop-depth : goal.decreases-variable-loop-depth
-decreases-variable-loop-depth l = l.depth
