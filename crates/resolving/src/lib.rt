@@ -1,5 +1,5 @@
-//! What a resolved tree has at a node, answered from the tables that judging has filled: how often a form is read and whether it is widened, what
-//! the name of a variable is, which component of its record mode a name is. Nothing is judged again.
+//! Parts of what a resolved tree has at a node, answered from tables filled as for judging: how often a form is read and whether it is then widened,
+//! what the name of a variable is, which component of its record mode a name is, where data and strings lie. Nothing is judged again.
 #![tactic(auto)]
 
 ghost use Rattle.std.specs.Prelude.{◌≡◌, ◌<◌, ◌^◌, IfSome, length, map, sum_by, take, option_map, slice_get};
@@ -92,8 +92,9 @@ fn home_item(env: Env<'_>, outer: usize, i: usize) -> usize
     if i < outer { env.names[i].item } else { 0 }
 }
 
-/// What the name of a variable stands for, and where that is kept, the first `outer` names being the module's: what the tree has at the name, whatever
-/// calls of the module's names call. A data variable among the other names, where no module has one, would have the item 0, as in the definition.
+/// What the name of a variable stands for, and where that is kept, the first `outer` names being the module's: what the tree has at the name, with any
+/// list of the module's names whose items are those of the first `outer`. A data variable among the other names, which no module has, would have
+/// the item 0.
 pub fn variable(env: Env<'_>, outer: usize, item: usize) -> Result<(Thing, Held), Refusal>
     ensures { (G : Ground) → Grounds env.entry.names.now outer G → Answers (known_means (facts env.entry.text)) result (resolve_name G (env_means env.entry) item) }
 {
