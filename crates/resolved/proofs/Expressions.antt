@@ -12,7 +12,7 @@ use Rattle.resolved.specs.Forms.{Callee, Form, Forms, Test}
 use Rattle.resolved.specs.Forms as form
 use Rattle.resolved.specs.Grounds.{Ground, home_at}
 use Rattle.resolved.specs.Reads.{brought_form}
-use Rattle.resolved.specs.ResolveExpressions.{Known, with, bring_form, bring_as, level, find, resolve_name, resolve_subscript, component_called, selected_form, resolve_select, resolve_pass, add, resolve_apply, resolve_call, resolve_head, resolve_bracketed, resolve, resolve_term, resolve_primary, resolve_use, resolve_variable, resolve_args, resolve_comparison, resolve_each, resolve_condition}
+use Rattle.resolved.specs.ResolveExpressions.{Known, with, bring_form, bring_as, beside_mode, find, resolve_name, resolve_subscript, component_called, selected_form, resolve_select, resolve_pass, add, resolve_apply, resolve_call, resolve_head, resolve_bracketed, resolve, resolve_term, resolve_primary, resolve_use, resolve_variable, resolve_args, resolve_comparison, resolve_each, resolve_condition}
 use Rattle.resolved.proofs.Same.{Same, right, wrong, same_then, same_made, same_option, same_with}
 
 -- an expression, and what has no value
@@ -112,7 +112,7 @@ same_test (Err e) = wrong
 same_comparison : (G : Ground) (Γ : Env) (c : Comparison) → Alike (resolve_comparison G Γ c) (judge_comparison Γ c)
 same_comparison G Γ (compare a o b) =
     same_then _ (same_bring (compared o) (spot a) (same_expr G Γ a))
-    (λ m. same_then _ (same_bring (compared o) (spot b) (same_expr G Γ b)) (λ k. same_made (λ u. form.compare o (level m k.0) (level k m.0)) (same_test (check (agree o m.0 k.0) (Misfit (front a))))))
+    (λ m. same_then _ (same_bring (compared o) (spot b) (same_expr G Γ b)) (λ k. same_made (λ u. form.compare o (beside_mode m k.0) (beside_mode k m.0)) (same_test (check (agree o m.0 k.0) (Misfit (front a))))))
 
 pub same_each : {A B : Type 0} {f : A → Result B Refusal} {g : A → Result (Unit {0}) Refusal} → ((a : A) → Alike (f a) (g a)) → (m : Many A) → Alike (resolve_each f m) (judge_each g m)
 same_each h (one a) = same_made _ (h a)

@@ -10,3 +10,5 @@ pub mod Rooms
 pub mod Slotted
 pub mod Procedures
 pub mod Rising
+pub mod Numbered
+pub mod Declared

@@ -98,7 +98,7 @@ slots_counted x ps b = length-append (map (λ f. f.item) (parameters x ps)) (blo
 
 item_roomy : (G : Ground) (Γ : Env) (w : Want) (i : Init Value) → Of (All Roomy) (resolve_data_item G Γ w i)
 item_roomy G Γ w (tree.plain n) = of_check (valueless Γ w) _ (λ u e. holds (All-cons Roomy (datum Γ w None n) [] tt (All-nil Roomy)))
-item_roomy G Γ w (given ns v) = of_any (resolve_value G Γ w v) (λ cs. holds (all_made Roomy (datum Γ w (Some cs)) (λ n. tt) (names_of ns)))
+item_roomy G Γ w (given ns v) = of_any (resolve_value G Γ w v) (λ cs. holds (all_made Roomy (datum Γ w (Some cs)) (λ n. tt) _))
 
 dec_roomy : (G : Ground) (Γ : Env) (d : Dec (Many (Init Value))) → Of (All Roomy) (resolve_data_dec G Γ d)
 dec_roomy G Γ tree.nothing = holds {a = []} (All-nil Roomy)

@@ -1,5 +1,5 @@
 -- The slots that a body names are slots of its procedure. Assumes nothing.
-use Rattle.std.proofs.Common.{◌≡◌, ℕ, zero, suc, ◌+◌, ◌<◌, ◌≤◌, Bool, true, false, cond, List, length, Some, None, slice_get, Option, Result, ok_or, option_map, option_and_then, nat_lt, refl, inl, inr, arith}
+use Rattle.std.proofs.Common.{◌≡◌, ℕ, zero, suc, ◌+◌, ◌<◌, ◌≤◌, Bool, true, false, cond, List, length, Some, None, slice_get, Option, Result, ok_or, option_map, option_and_then, nat_lt, refl, inl, inr, subst, arith}
 use Rattle.std.specs.Bool.{then_some}
 use Rattle.std.proofs.lemmas.Bool.{cases_lt}
 use Rattle.statics.specs.declared.Refusal.{Refusal}
@@ -14,7 +14,7 @@ use Rattle.resolved.specs.Forms.{Callee, Form, Forms, Test}
 use Rattle.resolved.specs.Forms as form
 use Rattle.resolved.specs.Grounds.{Ground, home_at, slot, variable_form}
 use Rattle.resolved.specs.Reads.{widens_for, reads, read_times, brought_form}
-use Rattle.resolved.specs.ResolveExpressions.{Known, with, bring_form, bring_as, level, find, resolve_name, resolve_subscript, component_called, selected_form, resolve_select, resolve_pass, add, resolve_apply, resolve_call, resolve_head, resolve_bracketed, resolve, resolve_term, resolve_primary, resolve_use, resolve_variable, resolve_args, resolve_comparison, resolve_each, resolve_condition}
+use Rattle.resolved.specs.ResolveExpressions.{Known, with, bring_form, bring_as, beside_mode, find, resolve_name, resolve_subscript, component_called, selected_form, resolve_select, resolve_pass, add, resolve_apply, resolve_call, resolve_head, resolve_bracketed, resolve, resolve_term, resolve_primary, resolve_use, resolve_variable, resolve_args, resolve_comparison, resolve_each, resolve_condition}
 use Rattle.resolved.specs.Slots.{Inside, InsideForms, Every, InsideTest, InsideTests}
 use Rattle.resolved.proofs.Holding.{Of, holds, refused, of_then, of_check, of_any}
 
@@ -29,17 +29,17 @@ pub record Room (G : Ground) (k : ℕ) (Γ : Env) : Type 0 where
   pub enough : length Γ.names ≤ length G + k
   pub outer : (i : ℕ) → i < length G → NotLocal (class_at Γ i)
 
--- A name is found among those in scope.
-seek_below : (n : ℕ) (t : ℕ → Bool) (i : ℕ) → seek n t ≡ Some i → i < n
-seek_below zero t i e = grind arith
-seek_below (suc n) t i e = go (t n) (seek n t) (seek_below n t) e
+-- What is found is in scope, and passes the test.
+pub seek_found : (n : ℕ) (t : ℕ → Bool) (i : ℕ) → seek n t ≡ Some i → (i < n) × (t i ≡ true)
+seek_found zero t i e = grind arith
+seek_found (suc n) t i e = go (t n) refl (seek n t) (seek_found n t) e
   where
-    go : (b : Bool) (o : Option ℕ) → ((j : ℕ) → o ≡ Some j → j < n) → cond b (Some n) o ≡ Some i → i < suc n
-    go true o h q = grind arith
-    go false o h q = let l = h i q in omega arith
+    go : (b : Bool) → t n ≡ b → (o : Option ℕ) → ((j : ℕ) → o ≡ Some j → (j < n) × (t j ≡ true)) → cond b (Some n) o ≡ Some i → (i < suc n) × (t i ≡ true)
+    go true p o h q = let s : n ≡ i = grind arith in (omega arith, subst (λ j. t j ≡ true) s p)
+    go false p o h q = let l = h i q in (let b = l.0 in omega arith, l.1)
 
 called_below : (Γ : Env) (n i : ℕ) → called_at Γ n ≡ Some i → i < length Γ.names
-called_below Γ n i e = go _ (λ j q. seek_below (length Γ.names) _ j q) e
+called_below Γ n i e = go _ (λ j q. (seek_found (length Γ.names) _ j q).0) e
   where
     test : (b : Bool) (j : ℕ) → then_some b j ≡ Some i → j ≡ i
     test true j q = grind arith
@@ -115,8 +115,8 @@ bring_inside k n p h = of_then h (λ t q. of_made (with (brought_form n t.0 t.1)
 pub as_inside : (k : ℕ) (m : Mode) (p : ℕ) {r : Result Known Refusal} → Of (FormIn k) r → Of (Inside k) (bring_as m p r)
 as_inside k m p h = of_then (bring_inside k (mode m) p h) (λ t q. holds q)
 
-level_inside : (k : ℕ) (m : Mode × Form) (j : Mode) → Inside k m.1 → Inside k (level m j)
-level_inside k m j h = widened_inside k _ m.1 h
+widened_beside : (k : ℕ) (m : Mode × Form) (j : Mode) → Inside k m.1 → Inside k (beside_mode m j)
+widened_beside k m j h = widened_inside k _ m.1 h
 
 -- Expressions.
 name_inside : (G : Ground) (k : ℕ) (Γ : Env) → Room G k Γ → (n : ℕ) → Of (FormIn k) (resolve_name G Γ n)
@@ -164,7 +164,7 @@ mutual
   expr_inside G k Γ r (up e) = expr_inside G k Γ r e
   expr_inside G k Γ r (dyadic a o i b) =
       of_then (bring_inside k (operand o) (spot a) (expr_inside G k Γ r a))
-      (λ m p. of_then (bring_inside k (operand o) (spot b) (expr_inside G k Γ r b)) (λ n q. holds (level_inside k m n.0 p, level_inside k n m.0 q)))
+      (λ m p. of_then (bring_inside k (operand o) (spot b) (expr_inside G k Γ r b)) (λ n q. holds (widened_beside k m n.0 p, widened_beside k n m.0 q)))
 
   term_inside : (G : Ground) (k : ℕ) (Γ : Env) → Room G k Γ → (t : Term) → Of (FormIn k) (resolve_term G Γ t)
   term_inside G k Γ r (monadic o i t) = of_then (bring_inside k (argument o) (spot_term t) (term_inside G k Γ r t)) (λ m p. holds p)
@@ -198,7 +198,7 @@ comparison_inside : (G : Ground) (k : ℕ) (Γ : Env) → Room G k Γ → (c : C
 comparison_inside G k Γ r (compare a o b) =
     of_then (bring_inside k (compared o) (spot a) (expr_inside G k Γ r a))
     (λ m p. of_then (bring_inside k (compared o) (spot b) (expr_inside G k Γ r b))
-    (λ n q. of_check (agree o m.0 n.0) (Misfit (front a)) (λ u e. holds (level_inside k m n.0 p, level_inside k n m.0 q))))
+    (λ n q. of_check (agree o m.0 n.0) (Misfit (front a)) (λ u e. holds (widened_beside k m n.0 p, widened_beside k n m.0 q))))
 
 every_inside : {A B : Type 0} {f : A → Result B Refusal} (P : B → Type 0) → ((a : A) → Of P (f a)) → (m : Many A) → Of (Every P) (resolve_each f m)
 every_inside P h (one a) = of_then (h a) (λ b p. holds p)

@@ -1,5 +1,5 @@
 -- Where the names of a module come from; and a data variable has one cell for each of its places. Assumes nothing.
-use Rattle.std.proofs.Common.{◌≡◌, ℕ, zero, suc, ◌*◌, ◌<◌, ◌≤◌, Bool, true, false, List, [], ◌∷◌, ◌++◌, map, length, Some, None, slice_get, sym, refl, ap, ◌∙◌, subst, arith, length-append}
+use Rattle.std.proofs.Common.{◌≡◌, ℕ, zero, suc, ◌+◌, ◌*◌, ◌<◌, ◌≤◌, Bool, true, false, List, [], ◌∷◌, ◌++◌, map, length, Some, None, slice_get, sym, refl, ap, ◌∙◌, subst, arith, length-append}
 use Rattle.std.specs.Prelude.{All, ◌==◌}
 use Rattle.std.proofs.Math.Nat.{suc-mul, add-mul}
 use Rattle.std.proofs.lemmas.List.{map-append}
@@ -27,7 +27,7 @@ use Rattle.resolved.specs.ResolveModules.{copies, element_modes, place_modes, by
 use Rattle.resolved.specs.Theorems.{Filled, Tree}
 use Rattle.resolved.proofs.Holding.{Of, holds, of_then, of_like, of_check, of_any, of_right, parts_hold}
 
-map_twice : {A B C : Type 0} (f : B → C) (g : A → B) (xs : List A) → map f (map g xs) ≡ map (λ a. f (g a)) xs
+pub map_twice : {A B C : Type 0} (f : B → C) (g : A → B) (xs : List A) → map f (map g xs) ≡ map (λ a. f (g a)) xs
 map_twice f g [] = refl
 map_twice f g (x ∷ xs) = ap (λ l. f (g x) ∷ l) (map_twice f g xs)
 
@@ -48,7 +48,7 @@ length-copies (suc n) xs = rw (length-append (copies n xs) xs, length-copies n x
 
 length-bytes : (i k : ℕ) → length (bytes_of i k) ≡ k
 length-bytes i zero = refl
-length-bytes i (suc k) = rw (length-append (bytes_of i k) (byte_of i k ∷ []), length-bytes i k) (omega arith)
+length-bytes i (suc k) = length-append (bytes_of i k) _ ∙ (ap (λ n. n + 1) (length-bytes i k) ∙ omega arith)
 
 element_places : (ps : List Component) (e : Element) → length (element_modes ps e) ≡ element_scalars ps e
 element_places ps (simple m) = refl
@@ -180,7 +180,7 @@ all_made P f h (n ∷ ns) = All-cons P (f n) (map f ns) (h n) (all_made P f h ns
 
 item_filled : (G : Ground) (Γ : Env) (w : Want) (i : Init Value) → Proper w → Of (AllFilled Γ.parts) (resolve_data_item G Γ w i)
 item_filled G Γ w (tree.plain n) p = of_check _ _ (λ u e. holds (All-cons (Filled Γ.parts) (datum Γ w None n) [] (places_counted Γ.parts w, λ cs q. grind arith) (All-nil (Filled Γ.parts))))
-item_filled G Γ w (given ns v) p = of_then (value_cells G Γ w v) (λ cs h. holds (all_made (Filled Γ.parts) (datum Γ w (Some cs)) (with_cells Γ w cs p h) (names_of ns)))
+item_filled G Γ w (given ns v) p = of_then (value_cells G Γ w v) (λ cs h. holds (all_made (Filled Γ.parts) (datum Γ w (Some cs)) (with_cells Γ w cs p h) _))
 
 dec_filled : (G : Ground) (Γ : Env) (d : Dec (Many (Init Value))) → Of (AllFilled Γ.parts) (resolve_data_dec G Γ d)
 dec_filled G Γ tree.nothing = holds (All-nil (Filled Γ.parts))

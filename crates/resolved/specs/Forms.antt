@@ -15,7 +15,7 @@ mutual
   pub data Form : Type 0 where
     -- an integer: the mode that it has, its value
     figure : Plain → ℕ → Form
-    -- the string at an item
+    -- the string at an item, whose bytes are those of the text there
     string : ℕ → Form
     -- the local in a slot
     local : ℕ → Form
@@ -85,7 +85,7 @@ mutual
     elsewhen : Arms → Tests → Sequence → Arms
 
 -- What a place of a data variable holds after loading: a number; one with a minus; the address of a data variable; of a string; a byte of a string, the
--- first being 0.
+-- first being 0. A string is named by its item, and its bytes are those of the text there.
 pub data Cell : Type 0 where
   number : Plain → ℕ → Cell
   minus : ℕ → Cell
@@ -93,7 +93,7 @@ pub data Cell : Type 0 where
   string_address : ℕ → Cell
   byte_of : ℕ → ℕ → Cell
 
--- A data variable: the item that declares it; what it is; the modes of its places; what they hold, in their order (without an initial value each holds 0).
+-- A data variable: the item that declares it; what it is, which is never `free`; the modes of its places; what they hold, in their order (without an initial value each holds 0).
 pub record Datum : Type 0 where
   pub item : ℕ
   pub shape : Want

@@ -6,5 +6,6 @@ pub mod ResolveStatements
 pub mod Places
 pub mod ResolveModules
 pub mod Slots
+pub mod Parts
 pub mod Theorems
 pub mod Examples

@@ -28,9 +28,9 @@ bring_form n p r = then r (λ t. ok_or (option_map (with (brought_form n t.0 t.1
 abbrev pub bring_as : Mode → ℕ → Result Known Refusal → Result Form Refusal
 bring_as m p r = then (bring_form (mode m) p r) (λ k. Ok k.1)
 
--- of two numbers one of which is INT, both are: beside an operand of mode k
-abbrev pub level : Mode × Form → Mode → Form
-level m k = cond (is_byte m.0 && not (is_byte k)) (form.widened m.1) m.1
+-- beside an operand of mode k: a BYTE beside an INT is widened
+abbrev pub beside_mode : Mode × Form → Mode → Form
+beside_mode m k = cond (is_byte m.0 && not (is_byte k)) (form.widened m.1) m.1
 
 -- the name at n, picked by its class, and which of the names it is
 abbrev pub find : {A : Type 0} → Env → ℕ → (Class → Option A) → Result (A × ℕ) Refusal
@@ -83,7 +83,7 @@ abbrev mutual
   pub resolve : {n : ℕ} → Ground → Env → Expr n → Result Known Refusal
   resolve G Γ (term t) = resolve_term G Γ t
   resolve G Γ (up e) = resolve G Γ e
-  resolve G Γ (dyadic a o i b) = then (bring_form (operand o) (spot a) (resolve G Γ a)) (λ m. then (bring_form (operand o) (spot b) (resolve G Γ b)) (λ k. Ok (value (result o m.0 k.0), form.dyadic o i (level m k.0) (level k m.0))))
+  resolve G Γ (dyadic a o i b) = then (bring_form (operand o) (spot a) (resolve G Γ a)) (λ m. then (bring_form (operand o) (spot b) (resolve G Γ b)) (λ k. Ok (value (result o m.0 k.0), form.dyadic o i (beside_mode m k.0) (beside_mode k m.0))))
 
   pub resolve_term : Ground → Env → Term → Result Known Refusal
   resolve_term G Γ (monadic o i t) = then (bring_form (argument o) (spot_term t) (resolve_term G Γ t)) (λ m. Ok (value (outcome o), form.monadic o i m.1))
@@ -115,7 +115,7 @@ abbrev mutual
 abbrev pub resolve_comparison : Ground → Env → Comparison → Result Test Refusal
 resolve_comparison G Γ (compare a o b) =
     then (bring_form (compared o) (spot a) (resolve G Γ a))
-    (λ m. then (bring_form (compared o) (spot b) (resolve G Γ b)) (λ k. then (check (agree o m.0 k.0) (Misfit (front a))) (λ u. Ok (form.compare o (level m k.0) (level k m.0)))))
+    (λ m. then (bring_form (compared o) (spot b) (resolve G Γ b)) (λ k. then (check (agree o m.0 k.0) (Misfit (front a))) (λ u. Ok (form.compare o (beside_mode m k.0) (beside_mode k m.0)))))
 
 abbrev pub resolve_each : {A B : Type 0} → (A → Result B Refusal) → Many A → Result (Many B) Refusal
 resolve_each f (one a) = then (f a) (λ b. Ok (one b))

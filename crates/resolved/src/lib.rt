@@ -2,7 +2,7 @@
 //! data and strings lie. It is a definition; the functions here carry its theorems.
 #![tactic(auto)]
 
-ghost use Rattle.resolved.specs.Theorems.{ExpressionsAgree, ConditionsAgree, StatementsAgree, ModulesAgree, OneTree, AcceptedTree, ReadsRight, EachPlaced, PlacesApart, PlacesInOrder, PlacesBelow, GroundRight, CellsRight, SlotsRight};
+ghost use Rattle.resolved.specs.Theorems.{ExpressionsAgree, ConditionsAgree, StatementsAgree, ModulesAgree, OneTree, AcceptedTree, ReadsRight, ComponentRight, EachPlaced, PlacesApart, PlacesInOrder, PlacesBelow, GroundRight, PartsRight, CellsRight, SlotsRight, SlotsApart};
 ghost use Rattle.resolved.specs.Examples.{Examples};
 
 /// What an expression is resolved to stands for what the expression is judged to stand for; or both are refused alike.
@@ -25,7 +25,8 @@ pub fn modules_agree()
     ensures { ModulesAgree }
 {}
 
-/// A module that is judged right has exactly one resolved tree, and any other has none.
+/// A module that is judged right, so that none of the declines 10, 11 and 12 applies to it, has exactly one resolved tree, and any other has none. One
+/// that is refused by 9, 13 or 14 only may have a tree.
 pub fn one_tree()
     ensures { OneTree }
 {}
@@ -38,6 +39,11 @@ pub fn accepted_tree()
 /// What is brought to a need is read as often as the rules say, and widened only from BYTE to INT.
 pub fn reads_right()
     ensures { ReadsRight }
+{}
+
+/// A component is numbered among those of its record mode.
+pub fn component_right()
+    ensures { ComponentRight }
 {}
 
 /// Each data variable and string has as many places as it is charged, in the order of the text.
@@ -65,6 +71,11 @@ pub fn ground_right()
     ensures { GroundRight }
 {}
 
+/// The parts of a tree are the data variables and procedures that the module declares, in the order of the text.
+pub fn parts_right()
+    ensures { PartsRight }
+{}
+
 /// A data variable has as many places as it is charged, and with an initial value one cell for each.
 pub fn cells_right()
     ensures { CellsRight }
@@ -75,7 +86,12 @@ pub fn slots_right()
     ensures { SlotsRight }
 {}
 
-/// The resolved trees of three small modules, and the refusal of a fourth.
+/// Locals in scope have different slots.
+pub fn slots_apart()
+    ensures { SlotsApart }
+{}
+
+/// The resolved trees of five small modules, and the refusal of a sixth.
 pub fn examples()
     ensures { Examples }
 {}
