@@ -15,23 +15,23 @@ use Rattle.resolved.specs.Grounds.{Ground, ground}
 use Rattle.resolved.specs.ResolveExpressions.{resolve_each}
 use Rattle.resolved.specs.ResolveStatements.{resolve_body}
 use Rattle.resolved.specs.ResolveModules.{resolve_value, datum, resolve_data_item, all_parts, resolve_data_dec, resolve_brick, resolve_moditem, resolve_module}
-use Rattle.resolved.specs.Parts.{Declared, of_part, item_declared, dec_declared, brick_declared, declared}
+use Rattle.resolved.specs.Parts.{Named, of_part, item_declared, dec_declared, brick_declared, declared}
 use Rattle.resolved.specs.Theorems.{Tree}
 use Rattle.resolved.proofs.Holding.{Of, holds, of_then, of_check, of_any, of_right}
 use Rattle.resolved.proofs.Stored.{map_twice}
 
 -- the parts are just these
-abbrev These : List Declared → List Part → Type 0
+abbrev These : List Named → List Part → Type 0
 These ds ps = map of_part ps ≡ ds
 
-these_append : (ds es : List Declared) (ps qs : List Part) → These ds ps → These es qs → These (ds ++ es) (ps ++ qs)
+these_append : (ds es : List Named) (ps qs : List Part) → These ds ps → These es qs → These (ds ++ es) (ps ++ qs)
 these_append ds es ps qs p q = rw (map-append of_part ps qs, p, q)
 
-each_these : {A : Type 0} {f : A → Result (List Part) Refusal} (g : A → List Declared) → ((a : A) → Of (These (g a)) (f a)) → (m : Many A) → Of (λ ps. These (gather g m) (gather (λ p. p) ps)) (resolve_each f m)
+each_these : {A : Type 0} {f : A → Result (List Part) Refusal} (g : A → List Named) → ((a : A) → Of (These (g a)) (f a)) → (m : Many A) → Of (λ ps. These (gather g m) (gather (λ p. p) ps)) (resolve_each f m)
 each_these g h (one a) = of_then (h a) (λ b p. holds p)
 each_these g h (more m a) = of_then (each_these g h m) (λ bs p. of_then (h a) (λ b q. holds (these_append (gather g m) (g a) (gather (λ l. l) bs) b p q)))
 
-all_these : {A : Type 0} {f : A → Result (List Part) Refusal} (g : A → List Declared) → ((a : A) → Of (These (g a)) (f a)) → (m : Many A) → Of (These (gather g m)) (all_parts f m)
+all_these : {A : Type 0} {f : A → Result (List Part) Refusal} (g : A → List Named) → ((a : A) → Of (These (g a)) (f a)) → (m : Many A) → Of (These (gather g m)) (all_parts f m)
 all_these g h m = of_then (each_these g h m) (λ ps p. holds p)
 
 item_these : (G : Ground) (Γ : Env) (w : Want) (i : Init Value) → Of (These (item_declared i)) (resolve_data_item G Γ w i)

@@ -8,7 +8,7 @@ pub mod Holding
 pub mod Stored
 pub mod Rooms
 pub mod Slotted
-pub mod Procedures
+pub mod WellNamed
 pub mod Rising
 pub mod Numbered
 pub mod Declared

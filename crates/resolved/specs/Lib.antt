@@ -5,7 +5,7 @@ pub mod ResolveExpressions
 pub mod ResolveStatements
 pub mod Places
 pub mod ResolveModules
-pub mod Slots
 pub mod Parts
+pub mod Naming
 pub mod Theorems
 pub mod Examples

@@ -21,8 +21,8 @@ use Rattle.resolved.specs.ResolveExpressions.{Known, component_called, component
 use Rattle.resolved.specs.ResolveStatements.{resolve_body}
 use Rattle.resolved.specs.Places.{places}
 use Rattle.resolved.specs.ResolveModules.{resolve_module}
-use Rattle.resolved.specs.Slots.{Roomy}
 use Rattle.resolved.specs.Parts.{of_part, declared}
+use Rattle.resolved.specs.Naming.{WellNamed}
 
 -- Resolving without the forms is judging: it accepts what judging accepts, and refuses all else with the same refusal.
 abbrev pub thing_of : Known → Result Thing Refusal
@@ -108,6 +108,6 @@ Filled ps (datum d) = (length d.modes ≡ scalars ps d.shape) × ((cs : List Cel
 abbrev pub CellsRight : Type 0
 CellsRight = (x : Text) (m : Module) (T : Resolved) → Tree x m T → All (Filled (module_env x m).parts) T.parts
 
--- No procedure's body names a slot that it has not.
-abbrev pub SlotsRight : Type 0
-SlotsRight = (x : Text) (m : Module) (T : Resolved) → Tree x m T → All Roomy T.parts
+-- A tree names just what it has: its slots, its data variables and procedures, and strings that have places in it.
+abbrev pub NamesRight : Type 0
+NamesRight = (x : Text) (m : Module) (T : Resolved) → Tree x m T → All (WellNamed (map of_part T.parts) T.places) T.parts

@@ -2,7 +2,7 @@
 //! data and strings lie. It is a definition; the functions here carry its theorems.
 #![tactic(auto)]
 
-ghost use Rattle.resolved.specs.Theorems.{ExpressionsAgree, ConditionsAgree, StatementsAgree, ModulesAgree, OneTree, AcceptedTree, ReadsRight, ComponentRight, EachPlaced, PlacesApart, PlacesInOrder, PlacesBelow, GroundRight, PartsRight, CellsRight, SlotsRight, SlotsApart};
+ghost use Rattle.resolved.specs.Theorems.{ExpressionsAgree, ConditionsAgree, StatementsAgree, ModulesAgree, OneTree, AcceptedTree, ReadsRight, ComponentRight, EachPlaced, PlacesApart, PlacesInOrder, PlacesBelow, GroundRight, PartsRight, CellsRight, NamesRight, SlotsApart};
 ghost use Rattle.resolved.specs.Examples.{Examples};
 
 /// What an expression is resolved to stands for what the expression is judged to stand for; or both are refused alike.
@@ -81,9 +81,9 @@ pub fn cells_right()
     ensures { CellsRight }
 {}
 
-/// No procedure's body names a slot that the procedure has not.
-pub fn slots_right()
-    ensures { SlotsRight }
+/// A tree names just what it has: each procedure its own slots, and all of it data variables and procedures of the tree and strings with places in it.
+pub fn names_right()
+    ensures { NamesRight }
 {}
 
 /// Locals in scope have different slots.
