@@ -147,9 +147,14 @@ impl Place {
         ensures is { result ≡ line_of text.now self.offset }
         ensures few { result ≤ 65536 }
     {
-        let before = self.text_before(text);
-        // `as`, here and in `column`: a place has 16 bits, so an error of `try_from` would never come.
-        1 + before.iter().filter(|b| **b == b'\n').count() as u32
+        // A loop and not `filter` with `count`, which the compiler does not vectorize: it takes two to five times as long.
+        let mut line = 1;
+        for b in self.text_before(text) {
+            if *b == b'\n' {
+                line += 1;
+            }
+        }
+        line
     }
 
     /// The column of the place in its line, from 1.
@@ -157,6 +162,7 @@ impl Place {
         ensures is { result ≡ column_of text.now self.offset }
         ensures few { result ≤ 65536 }
     {
+        // `as`: a place has 16 bits, so an error of `try_from` would never come.
         1 + last_line_len(self.text_before(text)) as u32
     }
 }

@@ -15,7 +15,7 @@ pub const MAX_ITEMS: usize = 4096;
 // No `ArrayVec`: it hides what stands behind its items, and `new` has always promised blanks there, which may not go.
 #[derive(Clone, Copy)]
 pub struct ItemTable {
-    entries: [Entry; MAX_ITEMS],
+    pub entries: [Entry; MAX_ITEMS],
     count: usize,
     ghost few: { count ≤ max_items },
 }
@@ -47,6 +47,14 @@ impl ItemTable {
         &self.entries[..self.count]
     }
 
+    /// The first `count` entries, or all that there is room for. What stands behind the items is free.
+    pub fn first(&self, count: usize) -> &[Entry]
+        ensures is { result.now ≡ take count self.now.entries }
+        ensures few { length result.now ≤ max_items }
+    {
+        &self.entries[..count.min(MAX_ITEMS)]
+    }
+
     /// Takes all items out of the table.
     pub fn clear(&mut self)
         ensures { items_of self.new ≡ [] }
@@ -63,8 +71,10 @@ impl ItemTable {
         if self.count == MAX_ITEMS {
             return Err(Decline::TooManyItems(entry.start));
         }
+        // The count is read once: a write to the entries would have it read again.
+        let count = self.count + 1;
         self.entries[self.count] = entry;
-        self.count += 1;
+        self.count = count;
         Ok(())
     }
 }

@@ -1,5 +1,5 @@
 -- What the functions of the cutter answer, in the words of the twin. Assumes nothing.
-use Rattle.std.specs.Prelude.{◌≡◌, ℕ, ◌<◌, ◌≤◌, Bool, false, List, [], ◌∷◌, length, take, drop, Some, None, Ok, Err, codes, Option, Result, nat_lt}
+use Rattle.std.specs.Prelude.{◌≡◌, ℕ, ◌<◌, ◌≤◌, Bool, false, List, [], ◌∷◌, length, take, drop, Some, None, Ok, Err, codes, Option, Result, ◌≢◌, nat_lt}
 use Rattle.std.specs.Borrow.{Bor}
 use Rattle.symbols.specs.Spellings.{sign}
 use Rattle.symbols.specs.Cut.{max_integer}
@@ -99,6 +99,20 @@ longer AtMost = []
 longer AtLeast = []
 longer Same = []
 longer Differs = []
+
+abbrev pub compounds : List Separator
+compounds = Same ∷ Differs ∷ Becomes ∷ Divide ∷ DoubleSlash ∷ AtMost ∷ AtLeast ∷ []
+
+-- the separator of several bytes at the front of t, the longest that stands there, and the rest; or none of these stands there
+abbrev pub Compound : List ℕ → Option (Separator × Bor (List ℕ)) → Type 0
+Compound t None = Unled compounds t
+Compound t (Some p) =
+    Leads p.0 t × (p.1.now ≡ drop (length (sign p.0)) t) × Unled (longer p.0) t
+
+-- the separator of one byte
+abbrev pub SimpleIs : ℕ → Option Separator → Type 0
+SimpleIs b None = (s : Separator) → sign s ≢ b ∷ []
+SimpleIs b (Some s) = sign s ≡ b ∷ []
 
 -- the separator at the front of t, the longest that stands there, and the rest; or none stands there
 abbrev pub Marked : List ℕ → Option (Separator × Bor (List ℕ)) → Type 0

@@ -1,7 +1,7 @@
 //! The item at the front of a text.
 ghost use Rattle.std.specs.Prelude.{◌≡◌, ◌<◌, ◌≤◌, length, take, drop, Some};
 ghost use Rattle.scanner.specs.Classes.{holds};
-ghost use Rattle.scanner.specs.Seen.{Marked, Part, Sees, Shows, bytes_of, symbol_of};
+ghost use Rattle.scanner.specs.Seen.{Compound, Marked, Part, Sees, Shows, SimpleIs, bytes_of, symbol_of};
 ghost use Rattle.symbols.specs.See.{keyword_of, named as named_as, see, see_behind, see_enclosed, see_mark, see_quoted, see_word, marks};
 
 use crate::bytes::{Class, run};
@@ -9,9 +9,32 @@ use crate::item::{Item, Stop};
 use crate::words::{base, keyword};
 use symbols::{Base, Separator};
 
-/// The separator at the front of the text, the longest that stands there, and the rest of the text.
-fn mark(text: &[u8]) -> Option<(Separator, &[u8])>
-    ensures { Marked text.now result }
+/// The separator of one character.
+fn simple(b: u8) -> Option<Separator>
+    ensures { SimpleIs b result }
+{
+    match char::from(b) {
+        '(' => Some(Separator::LeftBracket),
+        ')' => Some(Separator::RightBracket),
+        '*' => Some(Separator::Star),
+        '+' => Some(Separator::Plus),
+        '-' => Some(Separator::Minus),
+        ',' => Some(Separator::Comma),
+        '.' => Some(Separator::Point),
+        '/' => Some(Separator::Slash),
+        ':' => Some(Separator::Colon),
+        ';' => Some(Separator::Semicolon),
+        '<' => Some(Separator::Less),
+        '=' => Some(Separator::Equal),
+        '>' => Some(Separator::Greater),
+        '#' => Some(Separator::Hash),
+        _ => None,
+    }
+}
+
+/// The separator of several characters at the front of the text, the longest that stands there, and the rest of the text.
+fn compound(text: &[u8]) -> Option<(Separator, &[u8])>
+    ensures { Compound text.now result }
 {
     match text {
         [b':', b'=', b':', rest @ ..] => Some((Separator::Same, rest)),
@@ -21,21 +44,24 @@ fn mark(text: &[u8]) -> Option<(Separator, &[u8])>
         [b'/', b'/', rest @ ..] => Some((Separator::DoubleSlash, rest)),
         [b'<', b'=', rest @ ..] => Some((Separator::AtMost, rest)),
         [b'>', b'=', rest @ ..] => Some((Separator::AtLeast, rest)),
-        [b'(', rest @ ..] => Some((Separator::LeftBracket, rest)),
-        [b')', rest @ ..] => Some((Separator::RightBracket, rest)),
-        [b'*', rest @ ..] => Some((Separator::Star, rest)),
-        [b'+', rest @ ..] => Some((Separator::Plus, rest)),
-        [b'-', rest @ ..] => Some((Separator::Minus, rest)),
-        [b',', rest @ ..] => Some((Separator::Comma, rest)),
-        [b'.', rest @ ..] => Some((Separator::Point, rest)),
-        [b'/', rest @ ..] => Some((Separator::Slash, rest)),
-        [b':', rest @ ..] => Some((Separator::Colon, rest)),
-        [b';', rest @ ..] => Some((Separator::Semicolon, rest)),
-        [b'<', rest @ ..] => Some((Separator::Less, rest)),
-        [b'=', rest @ ..] => Some((Separator::Equal, rest)),
-        [b'>', rest @ ..] => Some((Separator::Greater, rest)),
-        [b'#', rest @ ..] => Some((Separator::Hash, rest)),
         _ => None,
+    }
+}
+
+/// The separator at the front of the text, the longest that stands there, and the rest of the text.
+fn mark(text: &[u8]) -> Option<(Separator, &[u8])>
+    ensures { Marked text.now result }
+{
+    // Matches one in the other, and no `?`: as `if let` and `?` a text of separators takes a quarter more time.
+    match compound(text) {
+        Some(found) => Some(found),
+        None => match text {
+            [b, rest @ ..] => match simple(*b) {
+                Some(separator) => Some((separator, rest)),
+                None => None,
+            },
+            [] => None,
+        },
     }
 }
 

@@ -1,6 +1,7 @@
-use Rattle.std.proofs.Common.{◌≡◌, ℕ, ◌+◌, ◌<◌, List, [], ◌∷◌, ◌++◌, length, get_or, take, sym, ap, ◌∙◌, subst, append_assoc, append-nil, arith, length-append, length-take, take_all}
+use Rattle.std.proofs.Common.{◌≡◌, ℕ, ◌+◌, ◌<◌, List, [], ◌∷◌, ◌++◌, length, get_or, take, sym, ap, ◌∙◌, subst, append_assoc, append-nil, arith, length-append, length-take, take_all, Ok, Err, Result}
 use Rattle.std.proofs.lemmas.List.{take_more, length-take-le}
-use Rattle.streams.specs.Recorders.{Meaning, State, Kept, Arrive, whole, flushed}
+use Rattle.streams.specs.declared.recorders.Full.{Full}
+use Rattle.streams.specs.Recorders.{Meaning, State, Kept, Put, Arrive, whole, flushed}
 use Rattle.streams.specs.History.{History, begun, accepted, declined, emptied, NothingLost, Recorded, Closed, Shut}
 
 -- One call after another.
@@ -43,6 +44,12 @@ arrive_then bs cs s t u p q =
       spends = omega (arith, p.spends, q.spends, length-append bs cs);
       passes = (m ++ l, q.passes.1 ∙ ap (λ x. x ++ l) p.passes.1 ∙ append_assoc s.written m l, append_assoc m l u.held ∙ ap (λ x. m ++ x) q.passes.2 ∙ sym (append_assoc m t.held cs) ∙ ap (λ x. x ++ cs) p.passes.2 ∙ append_assoc s.held bs cs);
     }
+
+-- where there is space, a `put` is not declined
+pub space_put :
+    (r : Result (Unit {0}) Full) (b : ℕ) (s t : Meaning) → 0 < s.space → Put r b s t → Arrive (b ∷ []) s t
+space_put (Ok x) b s t l p = p
+space_put (Err e) b s t l p = absurd (omega (arith, l, p.0))
 
 -- Histories.
 

@@ -1,28 +1,26 @@
-ghost use Rattle.std.specs.Prelude.{◌≡◌, ℕ, ◌+◌, ◌≤◌, [], length};
+ghost use Rattle.std.specs.Prelude.{◌≡◌, ℕ, ◌+◌, ◌<◌, ◌≤◌, [], length};
 ghost use Rattle.streams.specs.Recorders.{State, Kept, Put, Arrive, flushed};
 ghost use Rattle.streams.specs.Kinds.{over, Blocked};
 
 use crate::recorders::{FlushRecorder, Full, ReadRecorder, Recorder, record_all};
 use arrayvec::ArrayVec;
 
-/// Holds bytes back, `MOST` of them at most, and passes all down to the recorder below as one more
-/// arrives.
+/// Holds bytes back, 127 at most, and passes them down to the recorder below as the 128th arrives.
+// No const parameter for the number: a caller that is generic in `R` would owe that the blocker's size is below 2^63.
 #[derive(Drop)]
-pub struct Buffered<R, const MOST: usize> {
+pub struct Blocker<R> {
     below: R,
-    own: ArrayVec<u8, MOST>,
+    own: ArrayVec<u8, 127>,
+    ghost few: { length own.items < 128 },
 }
 
-/// Passes its bytes down as the 128th arrives.
-pub type Blocker<R> = Buffered<R, 127>;
-
-impl<R: FlushRecorder, const MOST: usize> Buffered<R, MOST> {
+impl<R: FlushRecorder> Blocker<R> {
     /// A blocker with no bytes of its own: it means what the recorder below means.
-    pub fn new(below: R) -> Buffered<R, MOST>
+    pub fn new(below: R) -> Blocker<R>
         ensures fresh { (result.below ≡ below) × (result.own.items ≡ []) }
-        ensures opens { Kept (λ s t. t ≡ s) (R.Recorder.state below) (⟦<Buffered<R, MOST> as Recorder>⟧.state result) }
+        ensures opens { Kept (λ s t. t ≡ s) (R.Recorder.state below) (⟦<Blocker<R> as Recorder>⟧.state result) }
     {
-        Buffered {
+        Blocker {
             below,
             own: ArrayVec::new(),
         }
@@ -30,7 +28,8 @@ impl<R: FlushRecorder, const MOST: usize> Buffered<R, MOST> {
 
     /// The bytes of its own that wait.
     pub fn waiting(&self) -> &[u8]
-        ensures { result.now ≡ self.now.own.items }
+        ensures is { result.now ≡ self.now.own.items }
+        ensures few { length result.now < 128 }
     {
         self.own.as_slice()
     }
@@ -44,10 +43,10 @@ impl<R: FlushRecorder, const MOST: usize> Buffered<R, MOST> {
 
     /// Writes everything and gives the recorder below back.
     pub fn end(mut self) -> R
-        ensures { Kept (λ s t. t ≡ flushed s) (⟦<Buffered<R, MOST> as Recorder>⟧.state self) (R.Recorder.state result) }
+        ensures { Kept (λ s t. t ≡ flushed s) (⟦<Blocker<R> as Recorder>⟧.state self) (R.Recorder.state result) }
     {
         self.flush();
-        let Buffered { below, own: _ } = self;
+        let Blocker { below, own: _ } = self;
         below
     }
 
@@ -61,7 +60,7 @@ impl<R: FlushRecorder, const MOST: usize> Buffered<R, MOST> {
     }
 }
 
-impl<R: FlushRecorder, const MOST: usize> Recorder for Buffered<R, MOST> {
+impl<R: FlushRecorder> Recorder for Blocker<R> {
     ghost state = { λ s. over s.own.items (R.Recorder.state s.below) };
 
     fn space(&self) -> usize {
@@ -69,8 +68,8 @@ impl<R: FlushRecorder, const MOST: usize> Recorder for Buffered<R, MOST> {
     }
 
     fn put(&mut self, b: u8) -> Result<(), Full>
-        ensures puts { Kept (Put result b) (⟦<Buffered<R, MOST> as Recorder>⟧.state self.old) (⟦<Buffered<R, MOST> as Recorder>⟧.state self.new) }
-        ensures blocks { (⟦<Buffered<R, MOST> as Recorder>⟧.state self.old).sound → Blocked (MOST + 1) result b self.old.own.items (R.Recorder.state self.old.below).means self.new.own.items (R.Recorder.state self.new.below).means }
+        ensures puts { Kept (Put result b) (⟦<Blocker<R> as Recorder>⟧.state self.old) (⟦<Blocker<R> as Recorder>⟧.state self.new) }
+        ensures blocks { (⟦<Blocker<R> as Recorder>⟧.state self.old).sound → Blocked 128 result b self.old.own.items (R.Recorder.state self.old.below).means self.new.own.items (R.Recorder.state self.new.below).means }
     {
         if self.space() == 0 {
             return Err(Full);
@@ -84,14 +83,14 @@ impl<R: FlushRecorder, const MOST: usize> Recorder for Buffered<R, MOST> {
     }
 }
 
-impl<R: FlushRecorder, const MOST: usize> FlushRecorder for Buffered<R, MOST> {
+impl<R: FlushRecorder> FlushRecorder for Blocker<R> {
     fn flush(&mut self) {
         self.pass();
         self.below.flush();
     }
 }
 
-impl<R: ReadRecorder, const MOST: usize> ReadRecorder for Buffered<R, MOST> {
+impl<R: ReadRecorder> ReadRecorder for Blocker<R> {
     fn text(&self) -> &[u8] {
         self.below.text()
     }

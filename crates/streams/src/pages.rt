@@ -12,7 +12,9 @@ impl<'a> Store for &'a mut [u8] {
     ghost through = { λ s. s.ghost_name ∷ [] };
 
     fn set(&mut self, at: usize, b: u8) {
-        self[at] = b;
+        if at < self.len() {
+            self[at] = b;
+        }
     }
 }
 

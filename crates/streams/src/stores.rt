@@ -10,9 +10,8 @@ pub trait Store: AsSlice<u8> {
     /// The names of the references that the bytes lie behind.
     ghost through: { Self → List ℕ };
 
-    /// Writes a byte over the one at a place.
+    /// Writes a byte over the one at a place. Behind the last there is none, and then nothing changes.
     fn set(&mut self, at: usize, b: u8)
-        requires { at < length (Self.AsSlice.items self.old) }
         ensures bytes { Self.AsSlice.items self.new ≡ slice_set (Self.AsSlice.items self.old) at b }
         ensures lent { through self.new ≡ through self.old };
 }

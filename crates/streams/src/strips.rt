@@ -11,7 +11,9 @@ impl<const N: usize> Store for [u8; N] {
     ghost through = { λ _. [] };
 
     fn set(&mut self, at: usize, b: u8) {
-        self[at] = b;
+        if at < self.len() {
+            self[at] = b;
+        }
     }
 }
 
@@ -25,5 +27,15 @@ impl<const N: usize> Filled<[u8; N]> {
             bytes: [0; N],
             used: 0,
         }
+    }
+}
+
+impl Strip {
+    /// An empty strip: it has space for 64 bytes.
+    pub fn empty() -> Strip
+        ensures fresh { result.used ≡ 0 }
+        ensures means { (⟦<Strip as Recorder>⟧.state result).means ≡ empty 64 }
+    {
+        Strip::new()
     }
 }

@@ -30,7 +30,7 @@ pub struct NodeTable {
 impl NodeTable {
     /// A table in which nothing stands yet.
     pub fn new() -> NodeTable
-        ensures { result.nodes ≡ replicate MAX_NODES blank_node }
+        ensures { result.nodes ≡ replicate 8193 blank_node }
     {
         NodeTable {
             nodes: [Node::Integer(0); MAX_NODES],
@@ -63,7 +63,11 @@ pub fn parse(items: &ItemTable, end: Place, tree: &mut NodeTable) -> Result<usiz
     // An array with a length beside it: `classify` fills a slice that is lent, and no `ArrayVec` can be lent with room behind its items.
     let mut terminals = [Symbol::Stop; MAX_ITEMS];
     let length = classify(items, &mut terminals);
-    read_module(&terminals[..length], &mut tree.nodes).map_err(|fault| decline(fault, items, end))
+    // No `map_err`: an edit that answers another node would add a call, and be refused since the proof names none.
+    match read_module(&terminals[..length], &mut tree.nodes) {
+        Ok(root) => Ok(root),
+        Err(fault) => Err(decline(fault, items, end)),
+    }
 }
 
 /// Cuts the text into its items and reads the tree of the module that they are: the node that stands for it, or the decline.

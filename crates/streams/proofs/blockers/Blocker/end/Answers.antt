@@ -1,4 +1,4 @@
-use Rattle.streams.proofs.blockers.Buffered.end.Goals as goal
+use Rattle.streams.proofs.blockers.Blocker.end.Goals as goal
 use Rattle.streams.proofs.Layers.{ended}
 
 pub returns : goal.returns
