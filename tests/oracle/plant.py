@@ -1,7 +1,8 @@
-import sys, re, types, time
-sys.path.insert(0,'/work/oracle')
+import os, sys, re, types, time
+HERE=os.path.dirname(os.path.abspath(__file__))
+sys.path.insert(0,HERE)
 import gen_verdicts as GV
-src=open('/work/oracle/judge.py').read()
+src=open(os.path.join(HERE,'judge.py')).read()
 cases=[(J.encode('latin-1') if False else t.replace('@','',1).encode('latin-1'), t, n) for J,t,n in [(None,t,n) for t,n,w in GV.cases if len(t)<3000]]
 import judge as J0
 want={b:J0.judge(b) for b,_,_ in cases}
