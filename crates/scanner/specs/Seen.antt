@@ -103,22 +103,24 @@ longer Differs = []
 abbrev pub compounds : List Separator
 compounds = Same ∷ Differs ∷ Becomes ∷ Divide ∷ DoubleSlash ∷ AtMost ∷ AtLeast ∷ []
 
--- the separator of several bytes at the front of t, the longest that stands there, and the rest; or none of these stands there
+-- a separator at the front of t, the longest that stands there, and the rest
+abbrev pub Longest : List ℕ → Separator × Bor (List ℕ) → Type 0
+Longest t p = Leads p.0 t × (p.1.now ≡ drop (length (sign p.0)) t) × Unled (longer p.0) t
+
+-- the longest separator at the front of t; or none of several bytes stands there
 abbrev pub Compound : List ℕ → Option (Separator × Bor (List ℕ)) → Type 0
 Compound t None = Unled compounds t
-Compound t (Some p) =
-    Leads p.0 t × (p.1.now ≡ drop (length (sign p.0)) t) × Unled (longer p.0) t
+Compound t (Some p) = Longest t p
 
 -- the separator of one byte
 abbrev pub SimpleIs : ℕ → Option Separator → Type 0
 SimpleIs b None = (s : Separator) → sign s ≢ b ∷ []
 SimpleIs b (Some s) = sign s ≡ b ∷ []
 
--- the separator at the front of t, the longest that stands there, and the rest; or none stands there
+-- the longest separator at the front of t; or none stands there
 abbrev pub Marked : List ℕ → Option (Separator × Bor (List ℕ)) → Type 0
 Marked t None = (s : Separator) → Leads s t → ⊥
-Marked t (Some p) =
-    Leads p.0 t × (p.1.now ≡ drop (length (sign p.0)) t) × Unled (longer p.0) t
+Marked t (Some p) = Longest t p
 
 -- v, or that it is too large
 abbrev pub Small : ℕ → Option ℕ → Type 0

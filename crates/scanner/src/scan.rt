@@ -52,7 +52,7 @@ fn compound(text: &[u8]) -> Option<(Separator, &[u8])>
 fn mark(text: &[u8]) -> Option<(Separator, &[u8])>
     ensures { Marked text.now result }
 {
-    // Matches one in the other, and no `?`: as `if let` and `?` a text of separators takes a quarter more time.
+    // Matches one in the other, and no `?`: with `if let` and `?` the compiler makes more instructions of each separator.
     match compound(text) {
         Some(found) => Some(found),
         None => match text {
