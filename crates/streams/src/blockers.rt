@@ -2,6 +2,7 @@ ghost use Rattle.std.specs.Prelude.{◌≡◌, ℕ, ◌+◌, ◌<◌, ◌≤◌,
 ghost use Rattle.streams.specs.Recorders.{State, Kept, Put, Arrive, flushed};
 ghost use Rattle.streams.specs.Kinds.{over, Blocked};
 
+pub use crate::buffered::Buffered;
 use crate::recorders::{FlushRecorder, Full, ReadRecorder, Recorder, record_all};
 use arrayvec::ArrayVec;
 

@@ -3,6 +3,7 @@
 #![tactic(auto)]
 
 pub mod blockers;
+pub mod buffered;
 pub mod pages;
 pub mod recorders;
 pub mod sources;

@@ -12,6 +12,10 @@ impl<'a> Store for &'a mut [u8] {
     ghost through = { λ s. s.ghost_name ∷ [] };
 
     fn set(&mut self, at: usize, b: u8) {
+        self.overwrite(at, b);
+    }
+
+    fn overwrite(&mut self, at: usize, b: u8) {
         if at < self.len() {
             self[at] = b;
         }

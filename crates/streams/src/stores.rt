@@ -10,10 +10,22 @@ pub trait Store: AsSlice<u8> {
     /// The names of the references that the bytes lie behind.
     ghost through: { Self → List ℕ };
 
-    /// Writes a byte over the one at a place. Behind the last there is none, and then nothing changes.
+    /// Writes a byte over the one at a place.
     fn set(&mut self, at: usize, b: u8)
+        requires { at < length (Self.AsSlice.items self.old) }
         ensures bytes { Self.AsSlice.items self.new ≡ slice_set (Self.AsSlice.items self.old) at b }
         ensures lent { through self.new ≡ through self.old };
+
+    /// The same at any place. Behind the last byte there is none to write over, and then nothing changes.
+    // A store whose `set` calls this writes it out.
+    fn overwrite(&mut self, at: usize, b: u8)
+        ensures bytes { Self.AsSlice.items self.new ≡ slice_set (Self.AsSlice.items self.old) at b }
+        ensures lent { through self.new ≡ through self.old }
+    {
+        if at < self.as_slice().len() {
+            self.set(at, b);
+        }
+    }
 }
 
 /// Bytes that are filled from the front. What is put is written at once, nothing is held back, and the
@@ -39,7 +51,7 @@ impl<S: Store> Recorder for Filled<S> {
         if self.used >= self.bytes.as_slice().len() {
             return Err(Full);
         }
-        self.bytes.set(self.used, b);
+        self.bytes.overwrite(self.used, b);
         self.used += 1;
         Ok(())
     }

@@ -11,6 +11,10 @@ impl<const N: usize> Store for [u8; N] {
     ghost through = { λ _. [] };
 
     fn set(&mut self, at: usize, b: u8) {
+        self.overwrite(at, b);
+    }
+
+    fn overwrite(&mut self, at: usize, b: u8) {
         if at < self.len() {
             self[at] = b;
         }

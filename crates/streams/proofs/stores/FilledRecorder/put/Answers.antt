@@ -4,4 +4,4 @@ use Rattle.streams.proofs.Layers.{stored_put}
 
 pub returns-clause-puts : goal.returns-clause-puts
 returns-clause-puts g c =
-    rw c.set.ensures.bytes (stored_put c.args.b (g.S.AsSlice.items c.args.self.now.bytes) c.args.self.now.used (omega (arith, ap length c.as_slice.ensures)) c.set.ensures.lent)
+    rw c.overwrite.ensures.bytes (stored_put c.args.b (g.S.AsSlice.items c.args.self.now.bytes) c.args.self.now.used (omega (arith, ap length c.as_slice.ensures)) c.overwrite.ensures.lent)
